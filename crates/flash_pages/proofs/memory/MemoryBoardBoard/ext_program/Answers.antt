@@ -1,0 +1,37 @@
+use Rattle.flash_pages.proofs.memory.MemoryBoardBoard.ext_program.Goals.{then-stops, else-stops}
+use Rattle.std.proofs.Common.{◌≡◌, ℕ, List, [], ap, arith}
+use Rattle.std.proofs.lemmas.List.{get_or_read}
+use Rattle.std.proofs.lemmas.Result.{on_ok_weaker, on_err_weaker}
+use Rattle.flash_pages.specs.State.{State, Ext}
+use Rattle.flash_pages.specs.declared.log.Change.TheVariants.{ExtHeld}
+use Rattle.flash_pages.proofs.Logged.{programs_result, programmed_result, at_ok}
+use Rattle.flash_pages.proofs.memory.MemoryBoardBoard.ext_program.Goals as goal
+
+pub returns-clause-programs : goal.returns-clause-programs
+returns-clause-programs c =
+    let b = c.args.self.now in
+    let was = get_or_read b.ext.items c.args.page c.index.result.now (omega (arith, b.ext_size)) c.index.ensures [] in
+    let to_state : List (List ℕ) → State = λ e. record { prog = b.prog.items; ext = e; sent = b.sent.items } in
+    programs_result (Ext c.args.page) _ _ _ _ _ c.if-stops.bytes _ _ _ _ _ (ExtHeld c.args.page c.index.result.now) c.replace-done.result
+    (c.replace-done.ensures.size, c.replace-done.ensures.bytes) (ap (ExtHeld c.args.page) was) (omega arith)
+    (on_ok_weaker c.replace-done.result (λ e. ap to_state e) c.replace-done.ensures.pages) c.replace-done.ensures.log
+    (on_err_weaker c.replace-done.result (λ e. ap to_state e) c.replace-done.ensures.pages_err) c.replace-done.ensures.log_err
+
+pub returns-then-stops-2-clause-programs : goal.returns-then-stops-2-clause-programs
+returns-then-stops-2-clause-programs c =
+    let b = c.args.self.now in
+    let was = get_or_read b.ext.items c.args.page c.index.result.now (omega (arith, b.ext_size)) c.index.ensures [] in
+    let to_state : List (List ℕ) → State = λ e. record { prog = b.prog.items; ext = e; sent = b.sent.items } in
+    programs_result (Ext c.args.page) _ _ _ _ _ c.if-stops.bytes _ _ _ _ _ (ExtHeld c.args.page c.index.result.now) c.replace-done.result
+    (c.replace-done.ensures.size, c.replace-done.ensures.bytes) (ap (ExtHeld c.args.page) was) c.raised-self-then-stops-2.ensures.no_less
+    (on_ok_weaker c.replace-done.result (λ e. ap to_state e) c.replace-done.ensures.pages) c.replace-done.ensures.log
+    (on_err_weaker c.replace-done.result (λ e. ap to_state e) c.replace-done.ensures.pages_err) c.replace-done.ensures.log_err
+
+pub returns-clause-ok : goal.returns-clause-ok
+returns-clause-ok c =
+    let b = c.args.self.now in
+    let was = get_or_read b.ext.items c.args.page c.index.result.now (omega (arith, b.ext_size)) c.index.ensures [] in
+    let to_state : List (List ℕ) → State = λ e. record { prog = b.prog.items; ext = e; sent = b.sent.items } in
+    let bytes_are : c.if-stops.bytes ≡ c.args.from.now = elim c.if-stops.branch [ then-stops w ↦ absurd (c.if-stops-2.false w.if-stops.true) | else-stops w ↦ w.bytes-is ] in
+    programmed_result c.args.from.now (Ext c.args.page) _ _ _ _ _ c.if-stops.bytes _ _ _ _ (ExtHeld c.args.page c.index.result.now)
+    bytes_are (c.replace-done.ensures.size, c.replace-done.ensures.bytes) (ap (ExtHeld c.args.page) was) (ap to_state (at_ok c.replace-done.result c.if-is_err.ensures.value c.replace-done.ensures.pages)) (at_ok c.replace-done.result c.if-is_err.ensures.value c.replace-done.ensures.log)

@@ -1,0 +1,94 @@
+-- What is known of a board, and what its calls do.
+use Rattle.std.specs.Prelude.{◌≡◌, ◌≢◌, ◌⊎◌, ◌↔◌, ℕ, ◌+◌, ◌<◌, ◌≤◌, ◌^◌, ◌-◌, min, List, [], length, take, drop, Option, Some, None}
+use Rattle.flash_pages.specs.State.{State, Place, IsState, Spoils, with_page, with_sent, MayHold}
+
+pub record View : Type 1 where
+  -- what both flashes hold and what was sent; a board may tell none
+  pub state : Option State
+  -- the bytes left to receive; a board may tell none
+  pub left : Option (List ℕ)
+  -- a number that never falls
+  pub moment : ℕ
+  -- a cut at some moment since that one may have left this state
+  pub left_since : ℕ → State → Type 0
+  pub programs : Place → ℕ
+  pub all_programs : ℕ
+  pub flash_faults : ℕ
+  pub line_faults : ℕ
+  pub sizes : (s : State) → state ≡ Some s → IsState s
+  -- the present state always passes
+  pub present : (s : State) (t : ℕ) → state ≡ Some s → t ≤ moment → left_since t s
+  -- and since this moment no other
+  pub only_now : (s x : State) → state ≡ Some s → left_since moment x → x ≡ s
+
+-- a count of faults rose, or stands at its end
+abbrev pub Rose : ℕ → ℕ → Type 0
+Rose before now = min (before + 1) (2 ^ 64 - 1) ≤ now
+
+-- Time goes on: a cut since t may have left what it might have left before, or what this call may leave.
+pub record Elapses (old new : View) (leaves : State → State → Type 0) : Type 0 where
+  pub later : old.moment ≤ new.moment
+  pub nothing_else : (s x : State) (t : ℕ) → old.state ≡ Some s → t ≤ old.moment → new.left_since t x → old.left_since t x ⊎ leaves s x
+  pub keeps : (x : State) (t : ℕ) → t ≤ old.moment → old.left_since t x → new.left_since t x
+
+-- what holds of each call on a flash, on every board
+pub record UsesFlash (old new : View) : Type 0 where
+  pub untold : old.state ≡ None → new.state ≡ None
+  pub left : new.left ≡ old.left
+  pub line : new.line_faults ≡ old.line_faults
+  pub flash : old.flash_faults ≤ new.flash_faults
+
+-- a read: nothing is changed
+pub record Reads (old new : View) : Type 0 where
+  pub state : new.state ≡ old.state
+  pub cut : Elapses old new (λ s x. x ≡ s)
+  pub programs : (place : Place) → new.programs place ≡ old.programs place
+  pub all_programs : new.all_programs ≡ old.all_programs
+  pub uses : UsesFlash old new
+
+-- a program of a page, only where it is needed, done or failed
+pub record Programs (needed : State → Type 0) (place : Place) (old new : View) : Type 0 where
+  pub state : (s : State) → old.state ≡ Some s → (x : State) × (new.state ≡ Some x) × MayHold needed place s x
+  pub cut : Elapses old new (MayHold needed place)
+  pub others : (s : State) (other : Place) → old.state ≡ Some s → other ≢ place → new.programs other ≡ old.programs other
+  pub at_most : (s : State) → old.state ≡ Some s → (new.programs place ≤ old.programs place + 1) × (new.all_programs ≤ old.all_programs + 1)
+  pub none : (s : State) → old.state ≡ Some s → (needed s → ⊥) → (new.programs place ≡ old.programs place) × (new.all_programs ≡ old.all_programs)
+  pub uses : UsesFlash old new
+
+-- the page holds these bytes
+pub record IsProgrammed (place : Place) (bytes : List ℕ) (old new : View) : Type 0 where
+  pub state : (s : State) → old.state ≡ Some s → new.state ≡ Some (with_page s place bytes)
+  pub programs : (s : State) → old.state ≡ Some s → new.programs place ≡ old.programs place + 1
+  pub all_programs : (s : State) → old.state ≡ Some s → new.all_programs ≡ old.all_programs + 1
+  pub flash : new.flash_faults ≡ old.flash_faults
+  -- a cut in it might have left any bytes in the page
+  pub spoils : (s x : State) (t : ℕ) → old.state ≡ Some s → t ≤ old.moment → Spoils place s x → new.left_since t x
+
+-- a call on the line: no page is changed
+pub record UsesLine (leaves : State → State → Type 0) (old new : View) : Type 0 where
+  pub untold : old.state ≡ None → new.state ≡ None
+  pub untold_left : old.left ≡ None → new.left ≡ None
+  pub cut : Elapses old new leaves
+  pub programs : (place : Place) → new.programs place ≡ old.programs place
+  pub all_programs : new.all_programs ≡ old.all_programs
+  pub line : old.line_faults ≤ new.line_faults
+  pub flash : new.flash_faults ≡ old.flash_faults
+
+-- so many bytes were given, and are left no more
+pub record Receives (count : ℕ) (old_into new_into : List ℕ) (old new : View) : Type 0 where
+  pub within : count ≤ length old_into
+  pub bytes : (bytes : List ℕ) → old.left ≡ Some bytes → (new.left ≡ Some (drop count bytes)) × (take count new_into ≡ take count bytes) × (count ≤ length bytes)
+  pub ends : (bytes : List ℕ) → old.left ≡ Some bytes → 0 < length old_into → (count ≡ 0) ↔ (bytes ≡ [])
+  pub line : new.line_faults ≡ old.line_faults
+
+-- so many bytes of the piece were sent
+pub record Sends (count : ℕ) (piece : List ℕ) (old new : View) : Type 0 where
+  pub within : count ≤ length piece
+  pub some : 0 < length piece → 0 < count
+  pub state : (s : State) → old.state ≡ Some s → new.state ≡ Some (with_sent s (take count piece))
+  pub line : new.line_faults ≡ old.line_faults
+
+-- each page was programmed once at most since old, and not at all where that wasn't needed
+pub record WearsOnce (needed : Place → Type 0) (old new : View) : Type 0 where
+  pub once : (place : Place) → new.programs place ≤ old.programs place + 1
+  pub none : (place : Place) → (needed place → ⊥) → new.programs place ≡ old.programs place
