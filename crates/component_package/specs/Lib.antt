@@ -1,0 +1,12 @@
+pub mod Numbers
+pub mod Component
+pub mod Reading
+pub mod Grammar
+pub mod Layout
+pub mod Link
+pub mod Areas
+pub mod Pages
+pub mod Frames
+pub mod Lines
+pub mod FirstMachine
+pub mod Laws
