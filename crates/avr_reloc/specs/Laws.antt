@@ -1,12 +1,18 @@
 -- Laws of fields and patches, each proved on a function of src/laws.rt.
-use Rattle.std.specs.Prelude.{◌≡◌, ℕ, ℤ, List, length}
+use Rattle.std.specs.Prelude.{◌≡◌, ◌↔◌, ℕ, ℤ, Some, List, length}
 use Rattle.std.specs.List.{All, AllPairs}
 use Rattle.avr_reloc.specs.declared.kind.RelocType.{RelocType}
 use Rattle.avr_reloc.specs.declared.kind.Shape.{Shape}
 use Rattle.avr_reloc.specs.declared.fixup.Fixup.{Fixup}
-use Rattle.avr_reloc.specs.Kind.{shape_of, width_of}
+use Rattle.avr_reloc.specs.Kind.{kind_of, number_of, shape_of, width_of}
 use Rattle.avr_reloc.specs.Field.{AreBytes, keep_of, masked, reading_of, HasZeroValue, FieldHolds}
 use Rattle.avr_reloc.specs.Fixups.{AreApart, CanBePut, ArePut}
+
+-- ---- Numbers
+
+-- each type has a number of its own
+abbrev pub NumbersMatch : Type 0
+NumbersMatch = (n : ℕ) (t : RelocType) → (kind_of n ≡ Some t) ↔ (number_of t ≡ n)
 
 -- ---- One field
 

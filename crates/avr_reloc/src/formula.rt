@@ -2,7 +2,7 @@
 
 ghost use Rattle.std.specs.Prelude.{◌≡◌, ◌<◌, ◌≤◌, ◌^◌, IfOk, ℤ, pos, ◌≤ℤ◌, unsigned_abs};
 ghost use Rattle.std.specs.Result.{result_err};
-ghost use Rattle.avr_reloc.specs.Number.{minus, half_of, remainder_of, byte_of};
+ghost use Rattle.avr_reloc.specs.Number.{half_of, remainder_of, byte_of};
 ghost use Rattle.avr_reloc.specs.Kind.{shape_of, is_in_range, tested_of, fault_of, value_of, distance_of};
 ghost use Rattle.avr_reloc.specs.Field.{keep_of, limit_of, SaysOnly, IsPatchOf, IsPadded, GivesField, IsNear};
 
@@ -95,7 +95,7 @@ fn fault(t: RelocType, x: i64, place: i64) -> Option<RangeFault>
 
 /// What the value bits say, for S+A `x` at the distance `d`.
 fn value(t: RelocType, x: i64, d: i64) -> u32
-    requires { minus (2 ^ 62) ≤ℤ x }
+    requires { IsNear x }
     ensures value { result ≡ value_of t x d }
     ensures below { result < limit_of (shape_of t) }
 {

@@ -1,6 +1,12 @@
 //! Laws about the definitions alone. Each function does nothing, and its contract is the law.
 
-ghost use Rattle.avr_reloc.specs.Laws.{ReadingDetermines, FieldIsDetermined, ClearingRestores, PutIsDetermined, PutExists};
+ghost use Rattle.avr_reloc.specs.Laws.{NumbersMatch, ReadingDetermines, FieldIsDetermined, ClearingRestores, PutIsDetermined, PutExists};
+
+/// A number is a type's exactly where the type is the number's.
+pub fn numbers_match()
+    ensures { NumbersMatch }
+{
+}
 
 /// What a field reads, and its bits outside the value bits, determine its bytes.
 pub fn reading_determines()
