@@ -1,5 +1,6 @@
 -- The table of relocation types, column by column. x is the symbol's address plus the addend (S+A), d the distance from the field.
-use Rattle.std.specs.Prelude.{◌≡◌, ℕ, ◌-◌, ◌^◌, ℤ, pos, neg_ℤ, ◌-ℤ◌, Bool, true, false, ◌&&◌, ◌||◌, Option, Some, None, List, [], ◌∷◌, if◌then◌else◌, ◌==◌, slice_get}
+use Rattle.std.specs.Prelude.{ℕ, ◌-◌, ◌^◌, ℤ, pos, neg_ℤ, ◌-ℤ◌}
+use Rattle.std.specs.Prelude.{Bool, true, false, ◌&&◌, ◌||◌, Option, Some, None, List, [], ◌∷◌, if◌then◌else◌, ◌==◌, slice_get}
 use Rattle.avr_reloc.specs.declared.kind.RelocType.{RelocType}
 use Rattle.avr_reloc.specs.declared.kind.RelocType.TheVariants as kinds
 use Rattle.avr_reloc.specs.declared.kind.Shape.{Shape}

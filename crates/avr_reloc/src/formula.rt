@@ -163,5 +163,9 @@ pub fn patch_of(t: RelocType, s_plus_a: i64, place: i64) -> Result<Patch, RangeF
         return Err(fault);
     }
     let value = value(t, s_plus_a, distance(s_plus_a, place));
-    Ok(Patch { width: t.width(), keep: keep(t), set: spread(t.shape(), value) })
+    Ok(Patch {
+        width: t.width(),
+        keep: keep(t),
+        set: spread(t.shape(), value),
+    })
 }

@@ -18,10 +18,34 @@ fn fields_of_instructions(rt: HostRuntime) -> Result<(), Fail> {
     use RangeFault::{Odd, TooFar};
     use RelocType::{Call, Lo8, Rel7, Rel13, Six, SixAdiw};
     let rows = [
-        (Call, 0x1234, 0, [0x0E, 0x94, 0, 0], Ok([0x0E, 0x94, 0x1A, 0x09])),
-        (Call, 0x1234, 0, [0xFF, 0x95, 0xFF, 0xFF], Ok([0x0E, 0x94, 0x1A, 0x09])),
-        (Lo8, 0x34, 0, [0x80, 0xE0, 0xAA, 0xBB], Ok([0x84, 0xE3, 0xAA, 0xBB])),
-        (Rel13, 0xFE, 0x100, [0x00, 0xC0, 0, 0], Ok([0xFE, 0xCF, 0, 0])),
+        (
+            Call,
+            0x1234,
+            0,
+            [0x0E, 0x94, 0, 0],
+            Ok([0x0E, 0x94, 0x1A, 0x09]),
+        ),
+        (
+            Call,
+            0x1234,
+            0,
+            [0xFF, 0x95, 0xFF, 0xFF],
+            Ok([0x0E, 0x94, 0x1A, 0x09]),
+        ),
+        (
+            Lo8,
+            0x34,
+            0,
+            [0x80, 0xE0, 0xAA, 0xBB],
+            Ok([0x84, 0xE3, 0xAA, 0xBB]),
+        ),
+        (
+            Rel13,
+            0xFE,
+            0x100,
+            [0x00, 0xC0, 0, 0],
+            Ok([0xFE, 0xCF, 0, 0]),
+        ),
         (Rel13, 4096, 0, [0x00, 0xC0, 0, 0], Ok([0xFF, 0xC7, 0, 0])),
         (Rel13, 4098, 0, [0x00, 0xC0, 0, 0], Err(TooFar(4096))),
         (Rel13, 0, 4094, [0x00, 0xC0, 0, 0], Ok([0x00, 0xC8, 0, 0])),
@@ -59,9 +83,18 @@ fn ends_of_ranges(rt: HostRuntime) -> Result<(), Fail> {
     ];
     for (t, least, greatest, step) in ranges {
         assert!(rt; patched(t, least, 200, [0; 4]).is_ok(), "{t:?} {least}");
-        assert!(rt; patched(t, greatest, 200, [0; 4]).is_ok(), "{t:?} {greatest}");
-        assert!(rt; is_too_far(t, i32::wrapping_sub(least, step)), "{t:?} below {least}");
-        assert!(rt; is_too_far(t, i32::wrapping_add(greatest, step)), "{t:?} above {greatest}");
+        assert!(rt;
+            patched(t, greatest, 200, [0; 4]).is_ok(),
+            "{t:?} {greatest}"
+        );
+        assert!(rt;
+            is_too_far(t, i32::wrapping_sub(least, step)),
+            "{t:?} below {least}"
+        );
+        assert!(rt;
+            is_too_far(t, i32::wrapping_add(greatest, step)),
+            "{t:?} above {greatest}"
+        );
     }
     Ok(())
 }
@@ -85,12 +118,24 @@ fn numbers_and_masks(rt: HostRuntime) -> Result<(), Fail> {
 
 #[test]
 fn images(rt: HostRuntime) -> Result<(), Fail> {
-    let call = Fixup { place: 1, kind: RelocType::Call, s_plus_a: 0x1234 };
-    let low = Fixup { place: 5, kind: RelocType::Lo8, s_plus_a: 0x34 };
+    let call = Fixup {
+        place: 1,
+        kind: RelocType::Call,
+        s_plus_a: 0x1234,
+    };
+    let low = Fixup {
+        place: 5,
+        kind: RelocType::Lo8,
+        s_plus_a: 0x34,
+    };
     let mut image = [0xFF, 0x0E, 0x94, 0, 0, 0x80, 0xE0, 0xFF];
     put_all(&mut image, &[call, low]);
     assert_eq!(rt; image, [0xFF, 0x0E, 0x94, 0x1A, 0x09, 0x84, 0xE3, 0xFF]);
-    let odd = Fixup { place: 1, kind: RelocType::Call, s_plus_a: 3 };
+    let odd = Fixup {
+        place: 1,
+        kind: RelocType::Call,
+        s_plus_a: 3,
+    };
     assert_eq!(rt; put_fixup(&mut image, &odd), Err(RangeFault::Odd));
     assert_eq!(rt; put_fixup(&mut image, &low), Ok(()));
     assert_eq!(rt; image, [0xFF, 0x0E, 0x94, 0x1A, 0x09, 0x84, 0xE3, 0xFF]);

@@ -1,4 +1,4 @@
-use Rattle.std.proofs.Common.{rules, w64, SFits, sym, length, ◌≡◌, ap, ◌∙◌}
+use Rattle.std.proofs.Common.{rules, w64, SFits, sym, length, ◌≡◌}
 use Rattle.std.proofs.lemmas.Int.{to_z-of_z}
 use Rattle.avr_reloc.specs.Field.{AreBytes}
 use Rattle.avr_reloc.proofs.Patched.{field_from_patch}
