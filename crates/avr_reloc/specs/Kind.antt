@@ -124,7 +124,7 @@ measures_distance kinds.Rel7 = true
 measures_distance kinds.Rel13 = true
 measures_distance _ = false
 
--- the numbers that a type can hold
+-- the numbers that a type can hold; data memory is numbered from 0x800000
 abbrev pub is_in_range : RelocType → ℤ → Bool
 is_in_range kinds.Rel7 v = is_within (minus 128) (pos 127) v
 is_in_range kinds.Rel13 v = is_within (minus 4096) (pos 4094) v
