@@ -1,0 +1,3 @@
+pub mod FirstLemmas
+pub mod Lists
+pub mod Sound
