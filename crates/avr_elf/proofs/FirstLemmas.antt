@@ -1,6 +1,6 @@
 -- The first among numbered things.
 use Rattle.std.proofs.Common.{◌≡◌, ℕ, zero, suc, ◌+◌, ◌<◌, Bool, true, false, cond, Option, Some, None, refl, ap, subst, inl, inr, arith, add-one}
-use Rattle.std.specs.Prelude.{◌||◌, is_some}
+use Rattle.std.specs.Prelude.{◌||◌, is_some, IfNone}
 use Rattle.std.specs.Option.{option_or}
 use Rattle.std.proofs.lemmas.Bool.{cases_order}
 use Rattle.avr_elf.specs.First.{first_of, first_index}
@@ -24,6 +24,11 @@ pub none_or : {X : Type 0} (o p : Option X) → option_or o p ≡ None → (o �
 none_or None p e = (refl, e)
 none_or (Some x) p e = absurd cc
 
+-- a fact that holds where there is no value
+pub IfNone-from : {X : Type 0} (o : Option X) (P : Type 0) → (o ≡ None → P) → IfNone o P
+IfNone-from None P f = f refl
+IfNone-from (Some x) P f = tt
+
 -- where there is no first, there is none
 pub first_of-none : {X : Type 0} (f : ℕ → Option X) (n i : ℕ) → first_of f n ≡ None → i < n → f i ≡ None
 first_of-none f zero i none lt = absurd (omega arith)
@@ -34,6 +39,10 @@ first_of-none f (suc n) i none lt =
       | inr (inl l) ↦ first_of-none f n i parts.0 l
       | inr (inr g) ↦ absurd (omega arith)
     ]
+
+-- a number that passes behind none that does is the first
+pub first_index-at : (p : ℕ → Bool) (n i : ℕ) → i < n → first_index p i ≡ None → p i ≡ true → first_index p n ≡ Some i
+first_index-at p n i lt none passes = first_of-at (λ k. cond (p k) (Some k) None) n i i lt none (rw passes refl)
 
 -- whether some number below the next passes
 pub first_index-more : (p : ℕ → Bool) (i : ℕ) → is_some (first_index p (i + 1)) ≡ (is_some (first_index p i) || p i)

@@ -1,3 +1,4 @@
 pub mod FirstLemmas
 pub mod Lists
 pub mod Sound
+pub mod ObjectLemmas

@@ -1,11 +1,11 @@
 -- Lists of numbered things, and what is read of lists.
-use Rattle.std.proofs.Common.{◌≡◌, ℕ, ◌+◌, ◌<◌, ◌≤◌, Bool, true, false, cond, Option, Some, None, List, length, get_or, take, refl, sym, ap, subst, ◌∙◌, inl, inr, arith}
-use Rattle.std.specs.Prelude.{nat_lt, slice_get, replicate}
+use Rattle.std.proofs.Common.{◌≡◌, ℕ, ◌+◌, ◌-◌, ◌<◌, ◌≤◌, Bool, true, false, cond, Option, Some, None, List, length, get_or, take, refl, sym, ap, subst, ◌∙◌, inl, inr, arith, length-drop}
+use Rattle.std.specs.Prelude.{nat_lt, slice_get, slice_range, replicate}
 use Rattle.std.specs.List.{position, position_or_len, before_first}
 use Rattle.std.proofs.lemmas.Bool.{cases_order, ltb-false}
-use Rattle.std.proofs.lemmas.List.{get_or-replicate, get_or_past, length-replicate, take_all}
+use Rattle.std.proofs.lemmas.List.{get_or-replicate, get_or_past, length-replicate, length-take, same_lists, take_all}
 use Rattle.std.proofs.lemmas.List.FromFn.{length-map-range_with_len, get_or-map-range_with_len}
-use Rattle.std.proofs.lemmas.Option.{slice_get-get_or}
+use Rattle.std.proofs.lemmas.Option.{slice_get-get_or, get_or_from_slice_get}
 use Rattle.avr_elf.specs.First.{list_of}
 
 -- a list of numbered things has as many as were asked for
@@ -17,6 +17,15 @@ pub slice_get-list_of : {X : Type 0} (f : ℕ → X) (n i : ℕ) → i < n → s
 slice_get-list_of f n i lt =
     let within : i < length (list_of f n) = omega (arith, length-list_of f n) in
     slice_get-get_or (list_of f n) i (f i) within ∙ ap (λ x. Some x) (get_or-map-range_with_len f 0 n i i (f i) lt (omega arith))
+
+-- a part of a list has its length
+pub length-slice_range : {X : Type 0} (xs : List X) (i j : ℕ) → j ≤ length xs → length (slice_range xs i j) ≡ j - i
+length-slice_range xs i j within = simp (length-drop, length-take) (omega arith)
+
+-- lists with the same elements are the same
+pub same_elements : {X : Type 0} (xs ys : List X) (n : ℕ) → length xs ≡ n → length ys ≡ n → ((i : ℕ) → i < n → slice_get xs i ≡ slice_get ys i) → xs ≡ ys
+same_elements {X} xs ys n left right each =
+    same_lists xs ys (left ∙ sym right) (λ k d lt. get_or_from_slice_get xs k (get_or ys k d) d (each k (omega arith) ∙ slice_get-get_or ys k d (omega arith)))
 
 -- a list of one value gives it everywhere, past its end too
 pub get_or-replicate_same : {X : Type 0} (n k : ℕ) (x : X) → get_or (replicate n x) k x ≡ x

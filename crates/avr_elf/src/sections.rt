@@ -4,7 +4,9 @@ ghost use Rattle.std.specs.Prelude.{◌≡◌, ◌<◌, ◌≤◌, ◌+◌, leng
 ghost use Rattle.avr_elf.specs.First.{first_of};
 ghost use Rattle.avr_elf.specs.Header.{section_count, names_index, header_of, HasTable, HasNames};
 ghost use Rattle.avr_elf.specs.Section.{is_allocated, has_bytes, is_within, is_supported, is_string_table, IsPlaced, ArePlaced};
-ghost use Rattle.avr_elf.specs.Faults.{place_fault, kind_fault, name_fault, names_fault};
+ghost use Rattle.avr_elf.specs.Faults.{place_fault, kind_fault, name_fault, names_fault, sections_fault};
+ghost use Rattle.avr_elf.specs.Object.{bytes_of};
+ghost use Rattle.avr_elf.specs.View.{AreNamed};
 
 use crate::constants::{ALLOC, GROUP, NOBITS, NULL, PROGBITS, REL, STRTAB, SYMTAB_SHNDX};
 use crate::fault::ElfFault;
@@ -55,6 +57,18 @@ pub fn is_string_table(file: &[u8], h: &SectionHeader) -> bool
     file[h.offset as usize + h.size as usize - 1] == 0
 }
 
+/// The section's bytes in the file, none where it has no bytes there.
+pub fn bytes_of<'a>(file: &'a [u8], h: &SectionHeader) -> &'a [u8]
+    requires { IsPlaced file.now h.now }
+    ensures { result.now ≡ bytes_of file.now h.now }
+{
+    if has_bytes(h) {
+        &file[h.offset as usize..h.offset as usize + h.size as usize]
+    } else {
+        &[]
+    }
+}
+
 fn place_fault(file: &[u8], i: u16) -> Option<ElfFault>
     requires table { HasTable file.now }
     requires inside { i < section_count file.now }
@@ -69,7 +83,7 @@ fn place_fault(file: &[u8], i: u16) -> Option<ElfFault>
 }
 
 /// The first section whose bytes are not within the file.
-pub fn places_fault(file: &[u8]) -> Option<ElfFault>
+fn places_fault(file: &[u8]) -> Option<ElfFault>
     requires { HasTable file.now }
     ensures fault { result ≡ first_of (place_fault file.now) (section_count file.now) }
     ensures placed { IfNone result (ArePlaced file.now) }
@@ -96,7 +110,7 @@ fn kind_fault(file: &[u8], i: u16) -> Option<ElfFault>
 }
 
 /// The first section of a kind that is not read.
-pub fn kinds_fault(file: &[u8]) -> Option<ElfFault>
+fn kinds_fault(file: &[u8]) -> Option<ElfFault>
     requires { HasTable file.now }
     ensures { result ≡ first_of (kind_fault file.now) (section_count file.now) }
 {
@@ -143,11 +157,12 @@ fn each_name_fault(file: &[u8], strings: &SectionHeader) -> Option<ElfFault>
 }
 
 /// What is wrong with the names of sections.
-pub fn names_fault(file: &[u8]) -> Option<ElfFault>
+fn names_fault(file: &[u8]) -> Option<ElfFault>
     requires table { HasTable file.now }
     requires names { HasNames file.now }
     requires placed { ArePlaced file.now }
-    ensures { result ≡ names_fault file.now }
+    ensures fault { result ≡ names_fault file.now }
+    ensures named { IfNone result (AreNamed file.now) }
 {
     let index = names_section(file);
     let strings = header(file, index);
@@ -155,4 +170,21 @@ pub fn names_fault(file: &[u8]) -> Option<ElfFault>
         return Some(ElfFault::StringTable(header_offset(file, index)));
     }
     each_name_fault(file, &strings)
+}
+
+/// What is wrong with the sections.
+pub fn sections_fault(file: &[u8]) -> Option<ElfFault>
+    requires table { HasTable file.now }
+    requires names { HasNames file.now }
+    ensures fault { result ≡ sections_fault file.now }
+    ensures placed { IfNone result (ArePlaced file.now) }
+    ensures named { IfNone result (AreNamed file.now) }
+{
+    if let Some(fault) = places_fault(file) {
+        return Some(fault);
+    }
+    if let Some(fault) = kinds_fault(file) {
+        return Some(fault);
+    }
+    names_fault(file)
 }

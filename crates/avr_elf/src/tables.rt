@@ -1,11 +1,12 @@
 //! The checks of the symbol table and of the tables of relocations.
 
-ghost use Rattle.std.specs.Prelude.{◌≡◌, ◌<◌, ◌≤◌, ◌+◌, ◌*◌, ◌/◌, ℕ, length, IfOk, false, is_some, slice_index_or, Option};
+ghost use Rattle.std.specs.Prelude.{◌≡◌, ◌<◌, ◌≤◌, ◌+◌, ◌*◌, ◌/◌, ℕ, length, IfNone, IfOk, false, is_some, Some};
 ghost use Rattle.std.specs.Result.{result_err};
 ghost use Rattle.avr_elf.specs.First.{first_of, first_index};
 ghost use Rattle.avr_elf.specs.Header.{section_count, header_at, header_of, HasTable};
 ghost use Rattle.avr_elf.specs.Section.{is_symtab, symtab_of, patches, ArePlaced};
-ghost use Rattle.avr_elf.specs.Faults.{second_symtab_fault, has_strings, has_symbols, has_section, is_in_memory, has_value, is_symbol, symbol_fault, symtab_fault, symbols_fault, entries_of, symbol_count, rela_fault, is_symtab_index, is_patched_before, is_rela_table, patching_fault, rela_table_fault};
+ghost use Rattle.avr_elf.specs.Faults.{second_symtab_fault, has_strings, has_symbols, has_section, is_in_memory, has_value, is_symbol, symbol_fault, symtab_fault, symbols_fault, entries_of, symbol_count, rela_fault, is_symtab_index, is_patched_before, is_rela_table, patching_fault, rela_table_fault, tables_fault};
+ghost use Rattle.avr_elf.specs.View.{AreSymbols};
 
 use crate::constants::{ABS, COMMON, PROGBITS, RELA, SYMTAB, UNDEF, WEAK};
 use crate::fault::ElfFault;
@@ -16,7 +17,7 @@ use crate::sections::{is_allocated, is_string_table};
 use crate::symbol::{SymbolEntry, symbol_in};
 
 /// The symbol table, where there is one, or the fault of a second one.
-pub fn only_symtab(file: &[u8]) -> Result<Option<u16>, ElfFault>
+fn only_symtab(file: &[u8]) -> Result<Option<u16>, ElfFault>
     requires { HasTable file.now }
     ensures fault { result_err result ≡ first_of (second_symtab_fault file.now) (section_count file.now) }
     ensures only { IfOk result (λ t. t ≡ symtab_of file.now) }
@@ -125,7 +126,8 @@ fn symtab_fault(file: &[u8], t: u16) -> Option<ElfFault>
     requires placed { ArePlaced file.now }
     requires inside { t < section_count file.now }
     requires kind { (header_of file.now t).kind ≡ 2 }
-    ensures { result ≡ symtab_fault file.now t }
+    ensures fault { result ≡ symtab_fault file.now t }
+    ensures symbols { IfNone result (AreSymbols file.now t) }
 {
     let table = header(file, t);
     if !has_strings(file, &table) {
@@ -138,11 +140,12 @@ fn symtab_fault(file: &[u8], t: u16) -> Option<ElfFault>
 }
 
 /// What is wrong with the symbol table, where there is one.
-pub fn symbols_fault(file: &[u8], symtab: Option<u16>) -> Option<ElfFault>
+fn symbols_fault(file: &[u8], symtab: Option<u16>) -> Option<ElfFault>
     requires table { HasTable file.now }
     requires placed { ArePlaced file.now }
     requires symtab { symtab ≡ symtab_of file.now }
-    ensures { result ≡ symbols_fault file.now symtab }
+    ensures fault { result ≡ symbols_fault file.now symtab }
+    ensures symbols { IfNone result ((t : ℕ) → symtab ≡ Some t → AreSymbols file.now t) }
 {
     match symtab {
         None => None,
@@ -256,7 +259,7 @@ fn rela_table_fault(file: &[u8], symbols: Symbols, r: u16, is_patched: bool) -> 
 /// Each entry is judged by the size of its own table's section, and tables may share bytes of the
 /// file. Each table that is read has a header of its own and one of the section that it patches, so a
 /// file of n bytes has at most n * n / 3840 entries to judge, 17.9 million of one of 262,144 bytes.
-pub fn rela_tables_fault(file: &[u8], symtab: Option<u16>) -> Option<ElfFault>
+fn rela_tables_fault(file: &[u8], symtab: Option<u16>) -> Option<ElfFault>
     requires table { HasTable file.now }
     requires placed { ArePlaced file.now }
     requires symtab { symtab ≡ symtab_of file.now }
@@ -276,4 +279,22 @@ pub fn rela_tables_fault(file: &[u8], symtab: Option<u16>) -> Option<ElfFault>
         mark_patched(&mut patched, &table);
     }
     None
+}
+
+/// The symbol table of a file whose symbols and relocations have no fault, or the first fault.
+pub fn checked_symtab(file: &[u8]) -> Result<Option<u16>, ElfFault>
+    requires table { HasTable file.now }
+    requires placed { ArePlaced file.now }
+    ensures fault { result_err result ≡ tables_fault file.now }
+    ensures only { IfOk result (λ t. t ≡ symtab_of file.now) }
+    ensures symbols { IfOk result (λ only. (t : ℕ) → only ≡ Some t → AreSymbols file.now t) }
+{
+    let symtab = only_symtab(file)?;
+    if let Some(fault) = symbols_fault(file, symtab) {
+        return Err(fault);
+    }
+    if let Some(fault) = rela_tables_fault(file, symtab) {
+        return Err(fault);
+    }
+    Ok(symtab)
 }
