@@ -91,13 +91,13 @@ are_symbols file t strings placed none =
     record {
       link = link;
       named = λ i lt.
-        let here = first_of-none (symbol_fault file (header_of file t)) ((header_of file t).size / 16) i none lt in
-        let tests = unless-none _ (SymbolTable (symbol_at (header_of file t) i)) here in
-        let s = symbol_entry file (symbol_at (header_of file t) i) in
-        let strings_size = (header_of file (header_of file t).link).size in
-        let in_section = and_parts (nat_lt s.name strings_size && nat_le s.binding WEAK && has_section file s) (has_value file s) tests in
-        let bound = and_parts (nat_lt s.name strings_size && nat_le s.binding WEAK) (has_section file s) in_section.0 in
-        let named = and_parts (nat_lt s.name strings_size) (nat_le s.binding WEAK) bound.0 in
-        let below = ltb-true _ _ named.0 in
-        omega (arith, n, below);
+          let here = first_of-none (symbol_fault file (header_of file t)) ((header_of file t).size / 16) i none lt in
+          let tests = unless-none _ (SymbolTable (symbol_at (header_of file t) i)) here in
+          let s = symbol_entry file (symbol_at (header_of file t) i) in
+          let strings_size = (header_of file (header_of file t).link).size in
+          let in_section = and_parts (nat_lt s.name strings_size && nat_le s.binding WEAK && has_section file s) (has_value file s) tests in
+          let bound = and_parts (nat_lt s.name strings_size && nat_le s.binding WEAK) (has_section file s) in_section.0 in
+          let named = and_parts (nat_lt s.name strings_size) (nat_le s.binding WEAK) bound.0 in
+          let below = ltb-true _ _ named.0 in
+          omega (arith, n, below);
     }

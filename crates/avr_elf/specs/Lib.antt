@@ -6,6 +6,7 @@ pub mod Entry
 pub mod FaultNumber
 pub mod Faults
 pub mod Object
+pub mod WellFormed
 pub mod Laws
 pub mod RelaTable
 pub mod View

@@ -1,5 +1,5 @@
 -- What an object is, and the one that the bytes of a file mean.
-use Rattle.std.specs.Prelude.{◌≡◌, ℕ, ◌+◌, ◌/◌, ◌<◌, Bool, ◌==◌, List, [], length, drop, slice_index, slice_range, slice_get, Option, Some, None, if◌then◌else◌}
+use Rattle.std.specs.Prelude.{◌≡◌, ℕ, ◌+◌, ◌/◌, ◌<◌, Bool, ◌==◌, List, [], length, drop, slice_index, slice_range, slice_get, Option, Some, None, unwrap_or, if◌then◌else◌}
 use Rattle.std.specs.List.{before_first}
 use Rattle.avr_elf.specs.declared.header.SectionHeader.{SectionHeader}
 use Rattle.avr_elf.specs.declared.symbol.SymbolEntry.{SymbolEntry}
@@ -35,6 +35,10 @@ pub record Object : Type 0 where
   pub sections : List SectionParts
   pub symbols : List SymbolParts
   pub relas : List (List Rela)
+
+-- the relocations of section k of an object
+abbrev pub relas_at : Object → ℕ → List Rela
+relas_at o k = unwrap_or (slice_get o.relas k) []
 
 -- ---- what the bytes of a file mean, whatever may be wrong with them
 

@@ -1,13 +1,13 @@
 -- What a view gives, as parts of the object, and what it rests on.
-use Rattle.std.specs.Prelude.{◌≡◌, ℕ, ◌/◌, ◌<◌, ◌≤◌, List, [], length, slice_get, Option, Some, unwrap_or}
+use Rattle.std.specs.Prelude.{◌≡◌, ℕ, ◌/◌, ◌<◌, ◌≤◌, List, length, Option, Some}
 use Rattle.avr_elf.specs.declared.part.Section.{Section}
 use Rattle.avr_elf.specs.declared.part.Symbol.{Symbol}
-use Rattle.avr_elf.specs.declared.relocation.Rela.{Rela}
 use Rattle.avr_elf.specs.Header.{section_count, names_index, header_of, HasTable, HasNames}
 use Rattle.avr_elf.specs.Section.{symtab_of, ArePlaced}
 use Rattle.avr_elf.specs.Entry.{symbol_entry}
 use Rattle.avr_elf.specs.Faults.{symbol_at}
-use Rattle.avr_elf.specs.Object.{Object, SectionParts, SymbolParts, bytes_of}
+use Rattle.avr_elf.specs.WellFormed.{IsWellFormed}
+use Rattle.avr_elf.specs.Object.{SectionParts, SymbolParts, bytes_of, object_of}
 
 -- ---- what is given
 
@@ -18,10 +18,6 @@ section_parts s = record { name = s.name.now; kind = s.kind; flags = s.flags; si
 -- a symbol that a view gives, its name as a list
 abbrev pub symbol_parts : Symbol → SymbolParts
 symbol_parts s = record { name = s.name.now; value = s.value; size = s.size; binding = s.binding; kind = s.kind; section = s.section }
-
--- the relocations of section k of an object
-abbrev pub relas_at : Object → ℕ → List Rela
-relas_at o k = unwrap_or (slice_get o.relas k) []
 
 -- ---- what a view rests on
 
@@ -45,4 +41,5 @@ pub record IsSound (file : List ℕ) : Type 0 where
 -- a file that was read, and its symbol table
 pub record IsRead (file : List ℕ) (symtab : Option ℕ) : Type 0 where
   pub sound : IsSound file
+  pub well_formed : IsWellFormed (object_of file)
   pub only : symtab ≡ symtab_of file

@@ -1,7 +1,9 @@
 //! What is wrong with an object.
 
 ghost use Rattle.std.specs.Prelude.{◌≡◌};
-ghost use Rattle.avr_elf.specs.FaultNumber.{number_of};
+ghost use Rattle.avr_elf.specs.FaultNumber.{number_of, offset_of};
+
+use std::fmt;
 
 /// The first fault of an object. The first number is the offset in the file of what is at fault, in
 /// bytes; of `Short` it is the file's length.
@@ -46,6 +48,41 @@ impl ElfFault {
             ElfFault::RelocationTable(_) => 8,
             ElfFault::SymbolIndex(_) => 9,
             ElfFault::Unsupported(_, _) => 10,
+        }
+    }
+
+    /// The fault's first number: where in the file it is, in bytes; of `Short` the file's length.
+    pub fn offset(&self) -> u32
+        ensures { result ≡ offset_of self.now }
+    {
+        match self {
+            ElfFault::Short(at)
+            | ElfFault::NotElf(at)
+            | ElfFault::NotAvr(at)
+            | ElfFault::NotRelocatable(at)
+            | ElfFault::SectionTable(at)
+            | ElfFault::StringTable(at)
+            | ElfFault::SymbolTable(at)
+            | ElfFault::RelocationTable(at)
+            | ElfFault::SymbolIndex(at)
+            | ElfFault::Unsupported(at, _) => *at,
+        }
+    }
+}
+
+impl fmt::Display for ElfFault {
+    fn fmt<W: fmt::Write>(&self, f: &mut fmt::Formatter<W>) -> fmt::Result {
+        match self {
+            ElfFault::Short(_) => write!(f, "the file is shorter than its header"),
+            ElfFault::NotElf(_) => write!(f, "the file is not a 32-bit little-endian ELF file"),
+            ElfFault::NotAvr(_) => write!(f, "the machine is not an avr5 or avr51"),
+            ElfFault::NotRelocatable(_) => write!(f, "the file is not relocatable"),
+            ElfFault::SectionTable(_) => write!(f, "sections are not within the file"),
+            ElfFault::StringTable(_) => write!(f, "a string table or a section's name is bad"),
+            ElfFault::SymbolTable(_) => write!(f, "the symbol table or a symbol is bad"),
+            ElfFault::RelocationTable(_) => write!(f, "a table of relocations or a place is bad"),
+            ElfFault::SymbolIndex(_) => write!(f, "a relocation names no symbol"),
+            ElfFault::Unsupported(_, kind) => write!(f, "a section of type {kind} is not read"),
         }
     }
 }

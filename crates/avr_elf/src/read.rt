@@ -1,9 +1,9 @@
 //! Reading an object.
 
-ghost use Rattle.std.specs.Prelude.{◌≡◌, ◌≤◌, length, IfOk};
+ghost use Rattle.std.specs.Prelude.{◌≡◌, ◌≤◌, length, IfOk, IsOkAnd};
 ghost use Rattle.std.specs.Result.{result_err};
 ghost use Rattle.avr_elf.specs.Faults.{elf_fault};
-ghost use Rattle.avr_elf.specs.Object.{object_of, IsObject};
+ghost use Rattle.avr_elf.specs.Object.{Object, object_of, IsObject};
 
 use crate::fault::ElfFault;
 use crate::file_header::file_header_fault;
@@ -17,6 +17,7 @@ pub fn read_object(file: &[u8]) -> Result<ObjectView<'_>, ElfFault>
     ensures fault { result_err result ≡ elf_fault file.now }
     ensures object { IfOk result (λ o. o ≡ object_of file.now) }
     ensures meant { IfOk result (λ o. IsObject file.now o) }
+    ensures whole { (o : Object) → IsObject file.now o → IsOkAnd result (λ seen. seen ≡ o) }
 {
     if let Some(fault) = file_header_fault(file) {
         return Err(fault);

@@ -174,7 +174,13 @@ fn is_symtab_index(symtab: Option<u16>, index: u32) -> bool
     }
 }
 
-fn rela_fault(file: &[u8], table: &SectionHeader, size: u32, symbols: u32, i: u32) -> Option<ElfFault>
+fn rela_fault(
+    file: &[u8],
+    table: &SectionHeader,
+    size: u32,
+    symbols: u32,
+    i: u32,
+) -> Option<ElfFault>
     requires table { HasTable file.now }
     requires placed { table.now.offset + table.now.size ≤ length file.now }
     requires inside { i < table.now.size / 12 }

@@ -1,11 +1,10 @@
 //! An object, seen in its file.
 
 use crate::header::count;
-use crate::lookup;
 use crate::part::{Section, Symbol};
 use crate::rela_table::RelaTable;
 use crate::relocation::Rela;
-use crate::tables;
+use crate::{lookup, tables};
 use std::marker::Model;
 
 /// An object that was read, over its file. Sections, symbols and relocations go by their indexes in
@@ -29,8 +28,9 @@ impl<'a> Model for ObjectView<'a> {
 
 impl<'a> ObjectView<'a> {
     ghost use Rattle.std.specs.Prelude.{◌≡◌, ◌<◌, length, slice_get, Some};
-    ghost use Rattle.avr_elf.specs.Object.{object_of};
-    ghost use Rattle.avr_elf.specs.View.{IsRead, section_parts, symbol_parts, relas_at};
+    ghost use Rattle.avr_elf.specs.Object.{object_of, relas_at};
+    ghost use Rattle.avr_elf.specs.WellFormed.{IsWellFormed};
+    ghost use Rattle.avr_elf.specs.View.{IsRead, section_parts, symbol_parts};
 
     /// A view of a file that was read.
     pub(crate) fn new(file: &'a [u8], symtab: Option<u16>) -> ObjectView<'a>
@@ -42,7 +42,8 @@ impl<'a> ObjectView<'a> {
 
     /// How many sections the object has, the empty one at index 0 among them.
     pub fn section_count(&self) -> u16
-        ensures { result ≡ length self.now.sections }
+        ensures count { result ≡ length self.now.sections }
+        ensures well_formed { IsWellFormed self.now }
     {
         count(self.file)
     }
@@ -57,7 +58,8 @@ impl<'a> ObjectView<'a> {
 
     /// How many symbols the object has, the empty one at index 0 among them.
     pub fn symbol_count(&self) -> u32
-        ensures { result ≡ length self.now.symbols }
+        ensures count { result ≡ length self.now.symbols }
+        ensures well_formed { IsWellFormed self.now }
     {
         tables::symbol_count(self.file, self.symtab)
     }

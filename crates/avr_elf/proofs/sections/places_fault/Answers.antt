@@ -14,5 +14,5 @@ returns-in-Some-clause-fault c =
 pub returns-clause-placed : goal.returns-clause-placed
 returns-clause-placed c =
     let none : first_of (place_fault c.args.file.now) (section_count c.args.file.now) ≡ None =
-      (let same : c.loop-i.i ≡ section_count c.args.file.now = omega arith in rw same at c.loop-i.invariant) in
+    (let same : c.loop-i.i ≡ section_count c.args.file.now = omega arith in rw same at c.loop-i.invariant) in
     are_placed c.args.file.now none

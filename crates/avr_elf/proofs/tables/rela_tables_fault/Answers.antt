@@ -16,5 +16,5 @@ loop-r-preserved c =
       none = first_of-more (rela_table_fault c.args.file.now) c.loop-r.r c.loop-r.invariant.none (sym c.in_default.ensures);
       room = omega arith;
       marks = λ k lt.
-        marks-more c.args.file.now c.loop-r.r k _ _ c.header-table.result c.header-table.ensures (c.loop-r.invariant.marks k lt) (c.mark_patched.ensures k (omega arith));
+          marks-more c.args.file.now c.loop-r.r k _ _ c.header-table.result c.header-table.ensures (c.loop-r.invariant.marks k lt) (c.mark_patched.ensures k (omega arith));
     }

@@ -12,7 +12,7 @@ symbol_of-requires-clause-inside c =
     let file = c.self.inside.file.now in
     let only : symtab_of file ≡ Some c.in-Some.t = sym c.self.invariant.only ∙ c.in-Some.is in
     let n : length c.args.self.now.symbols ≡ (header_of file c.in-Some.t).size / 16 =
-      rw (← c.self.view_is) (ap (λ t. length (symbols_of file t)) only ∙ length-list_of (symbol_of file (header_of file c.in-Some.t)) _) in
+    rw (← c.self.view_is) (ap (λ t. length (symbols_of file t)) only ∙ length-list_of (symbol_of file (header_of file c.in-Some.t)) _) in
     omega arith
 
 pub returns : goal.returns
