@@ -23,22 +23,36 @@ fn text(alloc: Global, name: &[u8]) -> Result<String, AllocError> {
     Ok(out)
 }
 
-fn print_sections<W: io::Write>(alloc: Global, out: &mut W, object: &ObjectView<'_>) -> io::Result<()> {
+fn print_sections<W: io::Write>(
+    alloc: Global,
+    out: &mut W,
+    object: &ObjectView<'_>,
+) -> io::Result<()> {
     for i in 0..object.section_count() {
         let s = object.section(i);
         let name = text(alloc, s.name)?;
         let (kind, flags, size, align) = (s.kind, s.flags, s.size, s.align);
-        writeln!(out, "section {i} \"{name}\" type {kind} flags {flags} size {size} align {align}")?;
+        writeln!(
+            out,
+            "section {i} \"{name}\" type {kind} flags {flags} size {size} align {align}"
+        )?;
     }
     Ok(())
 }
 
-fn print_symbols<W: io::Write>(alloc: Global, out: &mut W, object: &ObjectView<'_>) -> io::Result<()> {
+fn print_symbols<W: io::Write>(
+    alloc: Global,
+    out: &mut W,
+    object: &ObjectView<'_>,
+) -> io::Result<()> {
     for i in 0..object.symbol_count() {
         let s = object.symbol(i);
         let name = text(alloc, s.name)?;
         let (value, size, binding, kind, section) = (s.value, s.size, s.binding, s.kind, s.section);
-        writeln!(out, "symbol {i} \"{name}\" value {value} size {size} binding {binding} type {kind} section {section}")?;
+        writeln!(
+            out,
+            "symbol {i} \"{name}\" value {value} size {size} binding {binding} type {kind} section {section}"
+        )?;
     }
     Ok(())
 }
@@ -49,7 +63,10 @@ fn print_relocations<W: io::Write>(out: &mut W, object: &ObjectView<'_>) -> io::
         for i in 0..relas.len() {
             let r = relas.get(i);
             let (offset, kind, symbol, addend) = (r.offset, r.kind, r.symbol, r.addend);
-            writeln!(out, "relocation section {section} offset {offset} type {kind} symbol {symbol} addend {addend}")?;
+            writeln!(
+                out,
+                "relocation section {section} offset {offset} type {kind} symbol {symbol} addend {addend}"
+            )?;
         }
     }
     Ok(())
@@ -61,7 +78,11 @@ fn print_fault<W: io::Write>(out: &mut W, fault: ElfFault) -> io::Result<()> {
     writeln!(out, "fault {number} at {at}: {fault}")
 }
 
-fn print_object<W: io::Write>(alloc: Global, out: &mut W, object: &ObjectView<'_>) -> io::Result<()> {
+fn print_object<W: io::Write>(
+    alloc: Global,
+    out: &mut W,
+    object: &ObjectView<'_>,
+) -> io::Result<()> {
     print_sections(alloc, out, object)?;
     print_symbols(alloc, out, object)?;
     print_relocations(out, object)
