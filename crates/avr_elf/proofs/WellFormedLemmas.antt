@@ -84,10 +84,10 @@ is_section file i clean lt =
     record {
       kind = λ loaded. last_two (is_allocated h) (h.kind == PROGBITS) (h.kind == NOBITS) last.1 loaded;
       whole = λ kind.
-        let bytes : has_bytes h ≡ true = rw kind refl in
-        let within = are_placed file clean.places i lt bytes in
-        let size : h.offset + h.size - h.offset ≡ h.size = omega arith in
-        rw bytes (length-slice_range file h.offset (h.offset + h.size) within ∙ size);
+          let bytes : has_bytes h ≡ true = rw kind refl in
+          let within = are_placed file clean.places i lt bytes in
+          let size : h.offset + h.size - h.offset ≡ h.size = omega arith in
+          rw bytes (length-slice_range file h.offset (h.offset + h.size) within ∙ size);
     }
 
 -- ---- symbols
@@ -110,12 +110,12 @@ is_symbol_of file table i strings tests =
       known = leb-true _ _ known.1;
       index = rw (length-list_of (section_of file) (section_count file)) bound.1;
       within = λ x defined here loaded.
-        let there = numbered (section_of file) (section_count file) s.section x here in
-        let undefined : (s.section == UNDEF) ≡ false = differs s.section defined in
-        let inside = lt-ltb s.section (section_count file) there.below in
-        let allocated : is_allocated (header_of file s.section) ≡ true = subst (λ (y : SectionParts). is_loaded y ≡ true) (sym there.same) loaded in
-        let value = bounded (s.section == UNDEF) (nat_lt s.section (section_count file)) (is_allocated (header_of file s.section)) (nat_le s.value (header_of file s.section).size) placed.1 undefined inside allocated in
-        subst (λ (y : SectionParts). s.value ≤ y.size) there.same (leb-true _ _ value);
+          let there = numbered (section_of file) (section_count file) s.section x here in
+          let undefined : (s.section == UNDEF) ≡ false = differs s.section defined in
+          let inside = lt-ltb s.section (section_count file) there.below in
+          let allocated : is_allocated (header_of file s.section) ≡ true = subst (λ (y : SectionParts). is_loaded y ≡ true) (sym there.same) loaded in
+          let value = bounded (s.section == UNDEF) (nat_lt s.section (section_count file)) (is_allocated (header_of file s.section)) (nat_le s.value (header_of file s.section).size) placed.1 undefined inside allocated in
+          subst (λ (y : SectionParts). s.value ≤ y.size) there.same (leb-true _ _ value);
     }
   where
     differs : (n : ℕ) → n ≢ 0 → (n == 0) ≡ false
@@ -192,17 +192,17 @@ are_relas_of file k i x clean here =
     elim (cases_order k (section_count file)) [
       | inl same ↦ absurd (past (omega arith))
       | inr (inl below) ↦
-        let there = slice_get-list_of (relas_of file) (section_count file) k below in
-        let e = ap (λ (o : Option (List Rela)). slice_get (unwrap_or o []) i) there in
-        is_rela_of file k i x clean below (sym e ∙ here)
+          let there = slice_get-list_of (relas_of file) (section_count file) k below in
+          let e = ap (λ (o : Option (List Rela)). slice_get (unwrap_or o []) i) there in
+          is_rela_of file k i x clean below (sym e ∙ here)
       | inr (inr above) ↦ absurd (past (omega arith))
     ]
   where
     past : section_count file ≤ k → ⊥
     past le =
-      let none = slice_get_past (list_of (relas_of file) (section_count file)) k (omega (arith, length-list_of (relas_of file) (section_count file))) in
-      let e = ap (λ (o : Option (List Rela)). slice_get (unwrap_or o []) i) none in
-      cc
+        let none = slice_get_past (list_of (relas_of file) (section_count file)) k (omega (arith, length-list_of (relas_of file) (section_count file))) in
+        let e = ap (λ (o : Option (List Rela)). slice_get (unwrap_or o []) i) none in
+        cc
 
 -- ---- the whole
 
@@ -213,8 +213,8 @@ well_formed file sound =
     record {
       tables = length-list_of (relas_of file) (section_count file) ∙ sym (length-list_of (section_of file) (section_count file));
       sections = λ i s here.
-        let there = numbered (section_of file) (section_count file) i s here in
-        subst (λ (y : SectionParts). IsSection y) there.same (is_section file i clean there.below);
+          let there = numbered (section_of file) (section_count file) i s here in
+          subst (λ (y : SectionParts). IsSection y) there.same (is_section file i clean there.below);
       symbols = λ i s here. are_symbols_of file (symtab_of file) i s clean.symbols here;
       relas = λ k i x here. are_relas_of file k i x clean here;
     }

@@ -15,5 +15,4 @@ pub fn means_one_object()
 /// Each object that is meant is well formed.
 pub fn means_well_formed()
     ensures { MeansWellFormed }
-{
-}
+{}
