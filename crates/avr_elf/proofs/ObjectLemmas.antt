@@ -1,9 +1,8 @@
 -- Objects and the files that mean them.
 use Rattle.std.proofs.Common.{◌≡◌, ℕ, ◌/◌, ◌<◌, Option, Some, None, List, [], length, refl, sym, ap, ◌∙◌}
-use Rattle.std.specs.Prelude.{slice_get, unwrap_or}
+use Rattle.std.specs.Prelude.{unwrap_or}
 use Rattle.avr_elf.specs.declared.relocation.Rela.{Rela}
 use Rattle.avr_elf.specs.Header.{section_count, header_of}
-use Rattle.avr_elf.specs.Section.{symtab_of}
 use Rattle.avr_elf.specs.Faults.{elf_fault, entries_of}
 use Rattle.avr_elf.specs.Object.{SectionParts, SymbolParts, Object, section_of, symbol_of, symbols_of, relas_of, object_of, relas_at, AreBytes, IsObject}
 use Rattle.avr_elf.proofs.Lists.{length-list_of, slice_get-list_of, same_elements}

@@ -1,6 +1,6 @@
 -- What holds of a file with no fault.
-use Rattle.std.proofs.Common.{◌≡◌, ℕ, ◌+◌, ◌-◌, ◌/◌, ◌<◌, ◌≤◌, Bool, true, false, cond, Option, Some, None, List, length, refl, sym, ap, ◌∙◌, arith}
-use Rattle.std.specs.Prelude.{not, nat_lt, nat_le, slice_range, ◌&&◌, ◌||◌, ◌==◌, is_some}
+use Rattle.std.proofs.Common.{◌≡◌, ℕ, ◌+◌, ◌-◌, ◌/◌, ◌<◌, ◌≤◌, Bool, true, false, Option, Some, None, List, length, refl, sym, ◌∙◌, arith}
+use Rattle.std.specs.Prelude.{not, nat_lt, nat_le, ◌&&◌, ◌||◌, ◌==◌, is_some}
 use Rattle.std.proofs.lemmas.Bool.{leb-true, ltb-true, eqb-true, and_parts}
 use Rattle.avr_elf.specs.declared.fault.ElfFault.{ElfFault}
 use Rattle.avr_elf.specs.declared.fault.ElfFault.TheVariants.{SectionTable, StringTable, SymbolTable}
@@ -13,7 +13,7 @@ use Rattle.avr_elf.specs.Entry.{symbol_entry}
 use Rattle.avr_elf.specs.Object.{bytes_of}
 use Rattle.avr_elf.specs.View.{AreNamed, AreSymbols}
 use Rattle.avr_elf.specs.First.{first_of, first_index}
-use Rattle.avr_elf.specs.Faults.{unless, place_fault, name_fault, second_symtab_fault, has_strings, has_section, has_value, is_symbol, symbol_at, symbol_fault, is_patched_before}
+use Rattle.avr_elf.specs.Faults.{unless, place_fault, name_fault, second_symtab_fault, has_strings, has_section, has_value, symbol_at, symbol_fault, is_patched_before}
 use Rattle.avr_elf.proofs.FirstLemmas.{first_of-none, first_index-more, first_index-some}
 use Rattle.avr_elf.proofs.Lists.{length-slice_range}
 

@@ -1,25 +1,24 @@
 -- An object that a file means is well formed.
-use Rattle.std.proofs.Common.{◌≡◌, ◌≢◌, ℕ, ◌+◌, ◌-◌, ◌/◌, ◌%◌, ◌<◌, ◌≤◌, Bool, true, false, cond, Option, Some, None, List, [], length, refl, sym, ap, subst, ◌∙◌, inl, inr, arith}
-use Rattle.std.specs.Prelude.{not, ◌&&◌, ◌||◌, ◌==◌, nat_lt, nat_le, bit_and, slice_get, unwrap_or}
-use Rattle.std.proofs.lemmas.Bool.{leb-true, ltb-true, le-leb, lt-ltb, eqb-true, not-false, and_parts, cases_order}
+use Rattle.std.proofs.Common.{◌≡◌, ◌≢◌, ℕ, ◌+◌, ◌-◌, ◌/◌, ◌%◌, ◌<◌, ◌≤◌, Bool, true, false, cond, Option, Some, None, List, [], refl, sym, ap, subst, ◌∙◌, inl, inr, arith}
+use Rattle.std.specs.Prelude.{not, ◌&&◌, ◌||◌, ◌==◌, nat_lt, nat_le, slice_get, unwrap_or}
+use Rattle.std.proofs.lemmas.Bool.{leb-true, ltb-true, lt-ltb, eqb-true, and_parts, cases_order}
 use Rattle.std.proofs.lemmas.Bool.Decides.{eqb_tells}
 use Rattle.std.proofs.lemmas.Option.{slice_get_past}
 use Rattle.avr_elf.specs.declared.constants.TheConstants.{PROGBITS, RELA, NOBITS, REL, GROUP, SYMTAB_SHNDX, WEAK, UNDEF}
 use Rattle.avr_elf.specs.declared.header.SectionHeader.{SectionHeader}
-use Rattle.avr_elf.specs.declared.symbol.SymbolEntry.{SymbolEntry}
 use Rattle.avr_elf.specs.declared.relocation.Rela.{Rela}
 use Rattle.avr_elf.specs.declared.fault.ElfFault.{ElfFault}
 use Rattle.avr_elf.specs.declared.fault.ElfFault.TheVariants.{SymbolTable, Unsupported, StringTable, RelocationTable, SymbolIndex}
-use Rattle.avr_elf.specs.First.{first_of, first_index, list_of}
-use Rattle.avr_elf.specs.Header.{section_count, names_index, header_at, header_of}
-use Rattle.avr_elf.specs.Section.{is_allocated, has_bytes, is_supported, is_symtab, symtab_of, patches, table_of, ArePlaced}
+use Rattle.avr_elf.specs.First.{first_of, list_of}
+use Rattle.avr_elf.specs.Header.{section_count, header_at, header_of}
+use Rattle.avr_elf.specs.Section.{is_allocated, has_bytes, is_supported, symtab_of, patches, table_of}
 use Rattle.avr_elf.specs.Entry.{symbol_entry, rela_entry}
-use Rattle.avr_elf.specs.Faults.{elf_fault, file_header_fault, sections_fault, tables_fault, names_fault, unless, place_fault, kind_fault, second_symtab_fault, symbols_fault, symtab_fault, has_strings, has_symbols, symbol_fault, is_symbol, has_section, is_in_memory, has_value, symbol_at, symbol_count, entries_of, rela_at, rela_fault, is_symtab_index, is_patched_before, is_rela_table, patching_fault, rela_table_fault}
-use Rattle.avr_elf.specs.Object.{SectionParts, SymbolParts, Object, relas_at, bytes_of, section_of, symbol_of, symbols_of, relas_in, relas_of, object_of, IsObject}
+use Rattle.avr_elf.specs.Faults.{elf_fault, file_header_fault, sections_fault, tables_fault, names_fault, place_fault, kind_fault, second_symtab_fault, symbols_fault, has_strings, has_symbols, symbol_fault, is_symbol, has_section, has_value, symbol_at, symbol_count, rela_at, rela_fault, is_symtab_index, is_patched_before, is_rela_table, rela_table_fault}
+use Rattle.avr_elf.specs.Object.{SectionParts, SymbolParts, Object, relas_at, section_of, symbol_of, symbols_of, relas_in, relas_of, object_of, IsObject}
 use Rattle.avr_elf.specs.WellFormed.{is_loaded, IsSection, IsSymbolOf, IsRelaOf, IsWellFormed}
 use Rattle.avr_elf.proofs.FirstLemmas.{none_or, first_of-none, first_index-some}
 use Rattle.avr_elf.proofs.Lists.{length-list_of, slice_get-list_of, length-slice_range}
-use Rattle.avr_elf.proofs.Sound.{unless-none, are_placed, IsTable, symtab-is_table}
+use Rattle.avr_elf.proofs.Sound.{unless-none, are_placed}
 use Rattle.avr_elf.proofs.ObjectLemmas.{one_object, is_object, length-symbols_of}
 
 -- ---- the parts of no fault

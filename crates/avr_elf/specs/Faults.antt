@@ -1,10 +1,9 @@
 -- What is wrong with an object: the first fault, of checks that come in this order.
-use Rattle.std.specs.Prelude.{◌≡◌, ℕ, ◌+◌, ◌*◌, ◌/◌, ◌%◌, Bool, true, false, not, ◌&&◌, ◌||◌, ◌==◌, nat_lt, nat_le, List, [], ◌∷◌, length, slice_index, Option, Some, None, is_some, if◌then◌else◌}
+use Rattle.std.specs.Prelude.{ℕ, ◌+◌, ◌*◌, ◌/◌, ◌%◌, Bool, false, not, ◌&&◌, ◌||◌, ◌==◌, nat_lt, nat_le, List, [], ◌∷◌, length, slice_index, Option, Some, None, is_some, if◌then◌else◌}
 use Rattle.std.specs.Option.{option_or}
 use Rattle.avr_elf.specs.declared.constants.TheConstants.{PROGBITS, RELA, AVR, AVR5, AVR51, RELOCATABLE, WEAK, UNDEF, ABS, COMMON}
 use Rattle.avr_elf.specs.declared.header.SectionHeader.{SectionHeader}
 use Rattle.avr_elf.specs.declared.symbol.SymbolEntry.{SymbolEntry}
-use Rattle.avr_elf.specs.declared.relocation.Rela.{Rela}
 use Rattle.avr_elf.specs.declared.fault.ElfFault.{ElfFault}
 use Rattle.avr_elf.specs.declared.fault.ElfFault.TheVariants.{Short, NotElf, NotAvr, NotRelocatable, SectionTable, StringTable, SymbolTable, RelocationTable, SymbolIndex, Unsupported}
 use Rattle.avr_elf.specs.Number.{u16_at, u32_at}
@@ -180,7 +179,8 @@ is_patched_before file r k = is_some (first_index (patches file k) r)
 -- a table of relocations has twelve bytes for each, leans on the symbol table, and is the first to patch its section, which has bytes
 abbrev pub is_rela_table : List ℕ → ℕ → SectionHeader → Bool
 is_rela_table file r table =
-    is_symtab_index (symtab_of file) table.link && table.entry_size == 12 && table.size % 12 == 0 && (header_of file table.info).kind == PROGBITS && not (is_patched_before file r table.info)
+    is_symtab_index (symtab_of file) table.link && table.entry_size == 12 && table.size % 12 == 0
+    && (header_of file table.info).kind == PROGBITS && not (is_patched_before file r table.info)
 
 -- what is wrong with section r where it patches an allocated section
 abbrev pub patching_fault : List ℕ → ℕ → Option ElfFault

@@ -1,5 +1,5 @@
 -- Where the section table is, and what a section header says.
-use Rattle.std.specs.Prelude.{◌≡◌, ℕ, ◌+◌, ◌*◌, ◌<◌, ◌≤◌, List, length}
+use Rattle.std.specs.Prelude.{ℕ, ◌+◌, ◌*◌, ◌<◌, ◌≤◌, List, length}
 use Rattle.avr_elf.specs.declared.header.SectionHeader.{SectionHeader}
 use Rattle.avr_elf.specs.Number.{u16_at, u32_at}
 

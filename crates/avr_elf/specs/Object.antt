@@ -1,14 +1,13 @@
 -- What an object is, and the one that the bytes of a file mean.
-use Rattle.std.specs.Prelude.{◌≡◌, ℕ, ◌+◌, ◌/◌, ◌<◌, Bool, ◌==◌, List, [], length, drop, slice_index, slice_range, slice_get, Option, Some, None, unwrap_or, if◌then◌else◌}
+use Rattle.std.specs.Prelude.{◌≡◌, ℕ, ◌+◌, ◌/◌, ◌<◌, ◌==◌, List, [], length, drop, slice_index, slice_range, slice_get, Option, Some, None, unwrap_or, if◌then◌else◌}
 use Rattle.std.specs.List.{before_first}
 use Rattle.avr_elf.specs.declared.header.SectionHeader.{SectionHeader}
-use Rattle.avr_elf.specs.declared.symbol.SymbolEntry.{SymbolEntry}
 use Rattle.avr_elf.specs.declared.relocation.Rela.{Rela}
 use Rattle.avr_elf.specs.First.{list_of}
 use Rattle.avr_elf.specs.Header.{section_count, names_index, header_of}
 use Rattle.avr_elf.specs.Section.{is_allocated, has_bytes, symtab_of, table_of}
 use Rattle.avr_elf.specs.Entry.{symbol_entry, rela_entry}
-use Rattle.avr_elf.specs.Faults.{elf_fault, symbol_at, rela_at, symbol_count}
+use Rattle.avr_elf.specs.Faults.{elf_fault, symbol_at, rela_at}
 
 -- ---- an object
 

@@ -1,5 +1,5 @@
 -- What the reader asks of a section.
-use Rattle.std.specs.Prelude.{◌≡◌, ℕ, ◌+◌, ◌-◌, ◌<◌, ◌≤◌, Bool, true, false, not, ◌&&◌, ◌||◌, ◌==◌, nat_lt, nat_le, bit_and, List, length, slice_index, Option, Some, None, is_some}
+use Rattle.std.specs.Prelude.{◌≡◌, ℕ, ◌+◌, ◌-◌, ◌<◌, ◌≤◌, Bool, true, not, ◌&&◌, ◌||◌, ◌==◌, nat_lt, nat_le, bit_and, List, length, slice_index, Option}
 use Rattle.avr_elf.specs.declared.constants.TheConstants.{NULL, PROGBITS, SYMTAB, STRTAB, RELA, NOBITS, REL, GROUP, SYMTAB_SHNDX, ALLOC}
 use Rattle.avr_elf.specs.declared.header.SectionHeader.{SectionHeader}
 use Rattle.avr_elf.specs.First.{first_index}

@@ -28,7 +28,8 @@ AreNamed file = (i : ℕ) → i < section_count file → (header_of file i).name
 -- the symbol table t is linked to a section, and each symbol's name begins within it
 pub record AreSymbols (file : List ℕ) (t : ℕ) : Type 0 where
   pub link : (header_of file t).link < section_count file
-  pub named : (i : ℕ) → i < (header_of file t).size / 16 → (symbol_entry file (symbol_at (header_of file t) i)).name ≤ length (bytes_of file (header_of file (header_of file t).link))
+  pub named : (i : ℕ) → i < (header_of file t).size / 16
+      → (symbol_entry file (symbol_at (header_of file t) i)).name ≤ length (bytes_of file (header_of file (header_of file t).link))
 
 -- all that is read of a file lies within it
 pub record IsSound (file : List ℕ) : Type 0 where

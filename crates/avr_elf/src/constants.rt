@@ -6,11 +6,26 @@ pub const MAX_FILE: usize = 1_048_576;
 /// The bytes of the file header.
 pub const FILE_HEADER_SIZE: usize = 52;
 /// The bytes of a section header.
-pub const SECTION_HEADER_SIZE: usize = 40;
+pub const SECTION_HEADER_SIZE: u32 = 40;
 /// The bytes of a symbol.
-pub const SYMBOL_SIZE: usize = 16;
+pub const SYMBOL_SIZE: u32 = 16;
 /// The bytes of a relocation with an addend.
-pub const RELA_SIZE: usize = 12;
+pub const RELA_SIZE: u32 = 12;
+
+/// Where the file header says the file's type, two bytes.
+pub const FILE_TYPE_AT: u32 = 16;
+/// Where it says the machine, two bytes.
+pub const MACHINE_AT: u32 = 18;
+/// Where it says where the section table is, four bytes.
+pub const SECTION_TABLE_AT: u32 = 32;
+/// Where it says the flags, whose low seven bits name the architecture, four bytes.
+pub const FLAGS_AT: u32 = 36;
+/// Where it says the size of a section header, two bytes.
+pub const SECTION_HEADER_SIZE_AT: u32 = 46;
+/// Where it says how many sections there are, two bytes.
+pub const SECTION_COUNT_AT: u32 = 48;
+/// Where it says which section holds the names of sections, two bytes.
+pub const NAMES_INDEX_AT: u32 = 50;
 
 /// The machine number of the AVR.
 pub const AVR: u16 = 83;

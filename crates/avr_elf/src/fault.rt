@@ -70,6 +70,7 @@ impl ElfFault {
     }
 }
 
+/// What is wrong, in words, without the place.
 impl fmt::Display for ElfFault {
     fn fmt<W: fmt::Write>(&self, f: &mut fmt::Formatter<W>) -> fmt::Result {
         match self {

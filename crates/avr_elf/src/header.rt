@@ -3,6 +3,7 @@
 ghost use Rattle.std.specs.Prelude.{◌≡◌, ◌+◌, ◌<◌, ◌≤◌};
 ghost use Rattle.avr_elf.specs.Header.{section_count, header_at, header_of, HasTable};
 
+use crate::constants::{SECTION_COUNT_AT, SECTION_HEADER_SIZE, SECTION_TABLE_AT};
 use crate::number::{u16_in, u32_in};
 
 /// What the reader takes of a section header.
@@ -33,7 +34,7 @@ pub fn count(file: &[u8]) -> u16
     requires { HasTable file.now }
     ensures { result ≡ section_count file.now }
 {
-    u16_in(file, 48)
+    u16_in(file, SECTION_COUNT_AT as usize)
 }
 
 /// Where the header of section `i` is.
@@ -42,7 +43,7 @@ pub fn header_offset(file: &[u8], i: u16) -> u32
     requires inside { i < section_count file.now }
     ensures { result ≡ header_at file.now i }
 {
-    u32_in(file, 32) + 40 * i as u32
+    u32_in(file, SECTION_TABLE_AT as usize) + SECTION_HEADER_SIZE * i as u32
 }
 
 /// The header of section `i`.

@@ -26,11 +26,9 @@ mod tests;
 mod view;
 
 pub use fault::ElfFault;
-pub use header::SectionHeader;
 pub use law::{means_one_object, means_well_formed, no_fault_means_object};
 pub use part::{Section, Symbol};
 pub use read::read_object;
 pub use rela_table::RelaTable;
 pub use relocation::Rela;
-pub use symbol::SymbolEntry;
 pub use view::ObjectView;

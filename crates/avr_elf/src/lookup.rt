@@ -6,7 +6,7 @@ ghost use Rattle.avr_elf.specs.Section.{symtab_of, patches, table_of};
 ghost use Rattle.avr_elf.specs.Object.{section_of, symbol_of, relas_of};
 ghost use Rattle.avr_elf.specs.View.{section_parts, symbol_parts, IsSound};
 
-use crate::constants::RELA;
+use crate::constants::{RELA, RELA_SIZE, SYMBOL_SIZE};
 use crate::header::{count, header};
 use crate::name::name_in;
 use crate::part::{Section, Symbol};
@@ -40,7 +40,7 @@ pub fn symbol_of(file: &[u8], t: u16, i: u32) -> Symbol<'_>
     ensures { symbol_parts result ≡ symbol_of file.now (header_of file.now t) i }
 {
     let table = header(file, t);
-    let s = symbol_in(file, (table.offset + 16 * i) as usize);
+    let s = symbol_in(file, (table.offset + SYMBOL_SIZE * i) as usize);
     let strings = bytes_of(file, &header(file, table.link as u16));
     Symbol {
         name: name_in(strings, s.name),
@@ -87,7 +87,7 @@ pub fn relas_of(file: &[u8], k: u16) -> RelaTable<'_>
         None => RelaTable::new(file, 0, 0),
         Some(r) => {
             let table = header(file, r);
-            RelaTable::new(file, table.offset, table.size / 12)
+            RelaTable::new(file, table.offset, table.size / RELA_SIZE)
         }
     }
 }

@@ -30,7 +30,8 @@ pub fn is_marked(marks: &[bool], k: u32) -> bool
 
 /// Marks the section that a table of relocations patches.
 pub fn mark_patched(marks: &mut [bool], table: &SectionHeader)
-    ensures { (k : ℕ) → k < length marks.old → slice_index_or marks.new k false ≡ (slice_index_or marks.old k false || (table.now.kind == RELA && table.now.info == k)) }
+    ensures { (k : ℕ) → k < length marks.old
+        → slice_index_or marks.new k false ≡ (slice_index_or marks.old k false || (table.now.kind == RELA && table.now.info == k)) }
 {
     let k = table.info as usize;
     if table.kind == RELA && k < marks.len() {

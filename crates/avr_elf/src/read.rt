@@ -11,7 +11,9 @@ use crate::sections::sections_fault;
 use crate::tables::checked_symtab;
 use crate::view::ObjectView;
 
-/// Reads an object of at most 1,048,576 bytes: a view of it, or the first of its faults.
+/// Reads an object of at most 1,048,576 bytes: a view of it, or the first of its faults in the order of
+/// the checks. It takes no memory, and time in proportion to the sections, symbols and relocations
+/// that the tables hold.
 pub fn read_object(file: &[u8]) -> Result<ObjectView<'_>, ElfFault>
     requires { length file.now ≤ 1048576 }
     ensures fault { result_err result ≡ elf_fault file.now }

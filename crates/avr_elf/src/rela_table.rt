@@ -4,6 +4,7 @@ ghost use Rattle.std.specs.Prelude.{◌≡◌, ◌<◌, ◌+◌, ◌*◌};
 ghost use Rattle.avr_elf.specs.Entry.{rela_entry};
 ghost use Rattle.avr_elf.specs.RelaTable.{HasEntries};
 
+use crate::constants::RELA_SIZE;
 use crate::relocation::{Rela, rela_in};
 use std::marker::Model;
 
@@ -12,7 +13,7 @@ fn entry(file: &[u8], offset: u32, count: u32, i: u32) -> Rela
     requires inside { i < count }
     ensures { result ≡ rela_entry file.now (offset + 12 * i) }
 {
-    rela_in(file, (offset + 12 * i) as usize)
+    rela_in(file, (offset + RELA_SIZE * i) as usize)
 }
 
 /// The relocations of a section, found once and then read in constant time.

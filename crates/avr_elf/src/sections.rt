@@ -8,7 +8,9 @@ ghost use Rattle.avr_elf.specs.Faults.{place_fault, kind_fault, name_fault, name
 ghost use Rattle.avr_elf.specs.Object.{bytes_of};
 ghost use Rattle.avr_elf.specs.View.{AreNamed};
 
-use crate::constants::{ALLOC, GROUP, NOBITS, NULL, PROGBITS, REL, STRTAB, SYMTAB_SHNDX};
+use crate::constants::{
+    ALLOC, GROUP, NAMES_INDEX_AT, NOBITS, NULL, PROGBITS, REL, STRTAB, SYMTAB_SHNDX,
+};
 use crate::fault::ElfFault;
 use crate::header::{SectionHeader, count, header, header_offset};
 use crate::number::u16_in;
@@ -127,7 +129,7 @@ pub fn names_section(file: &[u8]) -> u16
     requires { HasTable file.now }
     ensures { result ≡ names_index file.now }
 {
-    u16_in(file, 50)
+    u16_in(file, NAMES_INDEX_AT as usize)
 }
 
 fn name_fault(file: &[u8], strings: &SectionHeader, i: u16) -> Option<ElfFault>

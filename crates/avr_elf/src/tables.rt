@@ -8,7 +8,7 @@ ghost use Rattle.avr_elf.specs.Section.{is_symtab, symtab_of, patches, ArePlaced
 ghost use Rattle.avr_elf.specs.Faults.{second_symtab_fault, has_strings, has_symbols, has_section, is_in_memory, has_value, is_symbol, symbol_fault, symtab_fault, symbols_fault, entries_of, symbol_count, rela_fault, is_symtab_index, is_patched_before, is_rela_table, patching_fault, rela_table_fault, tables_fault};
 ghost use Rattle.avr_elf.specs.View.{AreSymbols};
 
-use crate::constants::{ABS, COMMON, PROGBITS, RELA, SYMTAB, UNDEF, WEAK};
+use crate::constants::{ABS, COMMON, PROGBITS, RELA, RELA_SIZE, SYMBOL_SIZE, SYMTAB, UNDEF, WEAK};
 use crate::fault::ElfFault;
 use crate::header::{SectionHeader, count, header, header_offset};
 use crate::marks::{is_marked, mark_patched, no_marks};
@@ -48,7 +48,7 @@ fn has_strings(file: &[u8], table: &SectionHeader) -> bool
 fn has_symbols(table: &SectionHeader) -> bool
     ensures { result ≡ has_symbols table.now }
 {
-    table.entry_size == 16 && table.size % 16 == 0 && table.size != 0
+    table.entry_size == SYMBOL_SIZE && table.size % SYMBOL_SIZE == 0 && table.size != 0
 }
 
 fn has_section(file: &[u8], s: &SymbolEntry) -> bool
@@ -95,7 +95,7 @@ fn symbol_fault(file: &[u8], table: &SectionHeader, strings: u32, i: u32) -> Opt
     requires strings { strings ≡ (header_of file.now table.now.link).size }
     ensures { result ≡ symbol_fault file.now table.now i }
 {
-    let at = table.offset + 16 * i;
+    let at = table.offset + SYMBOL_SIZE * i;
     let s = symbol_in(file, at as usize);
     if is_symbol(file, strings, &s) {
         None
@@ -112,7 +112,7 @@ fn each_symbol_fault(file: &[u8], table: &SectionHeader) -> Option<ElfFault>
     ensures { result ≡ first_of (symbol_fault file.now table.now) (table.now.size / 16) }
 {
     let strings = header(file, table.link as u16).size;
-    for i in 0..table.size / 16 {
+    for i in 0..table.size / SYMBOL_SIZE {
         if let Some(fault) = symbol_fault(file, table, strings, i) {
             return Some(fault);
         }
@@ -161,7 +161,7 @@ pub fn symbol_count(file: &[u8], symtab: Option<u16>) -> u32
 {
     match symtab {
         None => 0,
-        Some(t) => header(file, t).size / 16,
+        Some(t) => header(file, t).size / SYMBOL_SIZE,
     }
 }
 
@@ -186,7 +186,7 @@ fn rela_fault(
     requires inside { i < table.now.size / 12 }
     ensures { result ≡ rela_fault file.now table.now size symbols i }
 {
-    let at = table.offset + 12 * i;
+    let at = table.offset + RELA_SIZE * i;
     let x = rela_in(file, at as usize);
     if x.offset >= size {
         return Some(ElfFault::RelocationTable(at));
@@ -203,7 +203,7 @@ fn relas_fault(file: &[u8], table: &SectionHeader, size: u32, symbols: u32) -> O
     requires placed { table.now.offset + table.now.size ≤ length file.now }
     ensures { result ≡ first_of (rela_fault file.now table.now size symbols) (table.now.size / 12) }
 {
-    for i in 0..table.size / 12 {
+    for i in 0..table.size / RELA_SIZE {
         if let Some(fault) = rela_fault(file, table, size, symbols, i) {
             return Some(fault);
         }
@@ -211,7 +211,7 @@ fn relas_fault(file: &[u8], table: &SectionHeader, size: u32, symbols: u32) -> O
     None
 }
 
-/// What tables of relocations lean on.
+/// The symbols that relocations name.
 #[derive(Clone, Copy)]
 struct Symbols {
     /// The symbol table.
@@ -227,8 +227,8 @@ fn is_rela_table(file: &[u8], table: &SectionHeader, symtab: Option<u16>, is_pat
     ensures { (r : ℕ) → is_patched ≡ is_patched_before file.now r table.now.info → result ≡ is_rela_table file.now r table.now }
 {
     is_symtab_index(symtab, table.link)
-        && table.entry_size == 12
-        && table.size % 12 == 0
+        && table.entry_size == RELA_SIZE
+        && table.size % RELA_SIZE == 0
         && header(file, table.info as u16).kind == PROGBITS
         && !is_patched
 }

@@ -548,7 +548,7 @@ fn reads_an_object_without_symbols(rt: HostRuntime) -> Result<(), Fail> {
 }
 
 #[test]
-fn numbers_each_fault(rt: HostRuntime) {
+fn numbers_each_fault(rt: HostRuntime) -> Result<(), Fail> {
     let faults = [
         ElfFault::Short(0),
         ElfFault::NotElf(0),
@@ -564,4 +564,7 @@ fn numbers_each_fault(rt: HostRuntime) {
     for (i, fault) in faults.iter().enumerate() {
         assert_eq!(rt; fault.number() as usize, i + 1);
     }
+    let words = format!(in rt.alloc(); "{}", ElfFault::Unsupported(0, 9))?;
+    assert_eq!(rt; words.as_str(), "a section of type 9 is not read");
+    Ok(())
 }

@@ -1,5 +1,4 @@
-use Rattle.std.proofs.Common.{◌≡◌, ◌+◌, ◌≤◌, length, Some, sym, arith}
-use Rattle.avr_elf.specs.Section.{table_of}
+use Rattle.std.proofs.Common.{◌+◌, ◌≤◌, length, sym, arith}
 use Rattle.avr_elf.proofs.Sound.{rela_table-is_table}
 use Rattle.avr_elf.proofs.lookup.relas_of.Goals as goal
 

@@ -1,4 +1,4 @@
-use Rattle.std.proofs.Common.{◌≡◌, ◌+◌, ◌/◌, ◌<◌, ◌≤◌, length, arith}
+use Rattle.std.proofs.Common.{◌+◌, ◌/◌, ◌<◌, ◌≤◌, length, arith}
 use Rattle.avr_elf.proofs.Sound.{symtab-is_table}
 use Rattle.avr_elf.proofs.lookup.symbol_of.Goals as goal
 

@@ -1,7 +1,7 @@
 use Rattle.std.proofs.Common.{◌∙◌, sym}
 use Rattle.avr_elf.specs.Header.{section_count}
 use Rattle.avr_elf.specs.Section.{is_symtab}
-use Rattle.avr_elf.proofs.FirstLemmas.{first_index-some, IsFirst}
+use Rattle.avr_elf.proofs.FirstLemmas.{first_index-some}
 use Rattle.avr_elf.proofs.tables.symbol_count.Goals as goal
 
 pub header-requires-clause-inside : goal.header-requires-clause-inside

@@ -1,5 +1,4 @@
 use Rattle.std.proofs.Common.{sym}
-use Rattle.avr_elf.specs.Entry.{rela_entry}
 use Rattle.avr_elf.proofs.Lists.{length-list_of}
 use Rattle.avr_elf.proofs.rela_table.RelaTable.len.Goals as goal
 

@@ -2,7 +2,6 @@ use Rattle.std.proofs.Common.{◌≡◌, ◌∙◌, ◌/◌, Some, length, sym, 
 use Rattle.std.specs.Prelude.{slice_get}
 use Rattle.avr_elf.specs.Header.{header_of}
 use Rattle.avr_elf.specs.Section.{symtab_of}
-use Rattle.avr_elf.specs.First.{list_of}
 use Rattle.avr_elf.specs.Object.{symbol_of, symbols_of}
 use Rattle.avr_elf.proofs.Lists.{length-list_of, slice_get-list_of}
 use Rattle.avr_elf.proofs.view.ObjectView.symbol.Goals as goal
