@@ -10,6 +10,7 @@ use crate::constants::{
     RELOCATABLE, SECTION_COUNT_AT, SECTION_HEADER_SIZE, SECTION_HEADER_SIZE_AT, SECTION_TABLE_AT,
 };
 use crate::fault::ElfFault;
+use crate::header::section_count;
 use crate::number::{u16_in, u32_in};
 
 /// The bytes that begin each 32-bit little-endian file of version 1.
@@ -47,13 +48,6 @@ fn is_relocatable(file: &[u8]) -> bool
     ensures { result ≡ is_relocatable file.now }
 {
     u16_in(file, FILE_TYPE_AT as usize) == RELOCATABLE
-}
-
-fn section_count(file: &[u8]) -> u16
-    requires { 52 ≤ length file.now }
-    ensures { result ≡ section_count file.now }
-{
-    u16_in(file, SECTION_COUNT_AT as usize)
 }
 
 fn has_header_size(file: &[u8]) -> bool

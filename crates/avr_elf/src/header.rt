@@ -1,6 +1,6 @@
 //! The file header's fields, and section headers.
 
-ghost use Rattle.std.specs.Prelude.{◌≡◌, ◌+◌, ◌<◌, ◌≤◌};
+ghost use Rattle.std.specs.Prelude.{◌≡◌, ◌<◌, ◌≤◌, length};
 ghost use Rattle.avr_elf.specs.Header.{section_count, header_at, header_of, HasTable};
 
 use crate::constants::{SECTION_COUNT_AT, SECTION_HEADER_SIZE, SECTION_TABLE_AT};
@@ -30,8 +30,8 @@ pub struct SectionHeader {
 }
 
 /// How many sections the file has.
-pub fn count(file: &[u8]) -> u16
-    requires { HasTable file.now }
+pub fn section_count(file: &[u8]) -> u16
+    requires { 52 ≤ length file.now }
     ensures { result ≡ section_count file.now }
 {
     u16_in(file, SECTION_COUNT_AT as usize)

@@ -7,7 +7,7 @@ ghost use Rattle.avr_elf.specs.Object.{section_of, symbol_of, relas_of};
 ghost use Rattle.avr_elf.specs.View.{section_parts, symbol_parts, IsSound};
 
 use crate::constants::{RELA, RELA_SIZE, SYMBOL_SIZE};
-use crate::header::{count, header};
+use crate::header::{header, section_count};
 use crate::name::name_in;
 use crate::part::{Section, Symbol};
 use crate::rela_table::RelaTable;
@@ -66,7 +66,7 @@ fn table_of(file: &[u8], k: u16) -> Option<u16>
     requires { HasTable file.now }
     ensures { result ≡ table_of file.now k }
 {
-    for i in 0..count(file) {
+    for i in 0..section_count(file) {
         if patches(file, k, i) {
             return Some(i);
         }

@@ -12,7 +12,7 @@ use crate::constants::{
     ALLOC, GROUP, NAMES_INDEX_AT, NOBITS, NULL, PROGBITS, REL, STRTAB, SYMTAB_SHNDX,
 };
 use crate::fault::ElfFault;
-use crate::header::{SectionHeader, count, header, header_offset};
+use crate::header::{SectionHeader, header, header_offset, section_count};
 use crate::number::u16_in;
 
 /// Whether the section is in memory when the program runs.
@@ -90,7 +90,7 @@ fn places_fault(file: &[u8]) -> Option<ElfFault>
     ensures fault { result ≡ first_of (place_fault file.now) (section_count file.now) }
     ensures placed { IfNone result (ArePlaced file.now) }
 {
-    for i in 0..count(file) {
+    for i in 0..section_count(file) {
         if let Some(fault) = place_fault(file, i) {
             return Some(fault);
         }
@@ -116,7 +116,7 @@ fn kinds_fault(file: &[u8]) -> Option<ElfFault>
     requires { HasTable file.now }
     ensures { result ≡ first_of (kind_fault file.now) (section_count file.now) }
 {
-    for i in 0..count(file) {
+    for i in 0..section_count(file) {
         if let Some(fault) = kind_fault(file, i) {
             return Some(fault);
         }
@@ -150,7 +150,7 @@ fn each_name_fault(file: &[u8], strings: &SectionHeader) -> Option<ElfFault>
     requires strings { strings.now ≡ header_of file.now (names_index file.now) }
     ensures { result ≡ first_of (name_fault file.now) (section_count file.now) }
 {
-    for i in 0..count(file) {
+    for i in 0..section_count(file) {
         if let Some(fault) = name_fault(file, strings, i) {
             return Some(fault);
         }

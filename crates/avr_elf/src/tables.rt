@@ -10,7 +10,7 @@ ghost use Rattle.avr_elf.specs.View.{AreSymbols};
 
 use crate::constants::{ABS, COMMON, PROGBITS, RELA, RELA_SIZE, SYMBOL_SIZE, SYMTAB, UNDEF, WEAK};
 use crate::fault::ElfFault;
-use crate::header::{SectionHeader, count, header, header_offset};
+use crate::header::{SectionHeader, header, header_offset, section_count};
 use crate::marks::{is_marked, mark_patched, no_marks};
 use crate::relocation::rela_in;
 use crate::sections::{is_allocated, is_string_table};
@@ -23,7 +23,7 @@ fn only_symtab(file: &[u8]) -> Result<Option<u16>, ElfFault>
     ensures only { IfOk result (λ t. t ≡ symtab_of file.now) }
 {
     let mut found = None;
-    for i in 0..count(file) {
+    for i in 0..section_count(file) {
         if header(file, i).kind == SYMTAB {
             if found.is_some() {
                 return Err(ElfFault::SymbolTable(header_offset(file, i)));
@@ -39,7 +39,7 @@ fn has_strings(file: &[u8], table: &SectionHeader) -> bool
     requires placed { ArePlaced file.now }
     ensures { result ≡ has_strings file.now table.now }
 {
-    if table.link >= count(file) as u32 {
+    if table.link >= section_count(file) as u32 {
         return false;
     }
     is_string_table(file, &header(file, table.link as u16))
@@ -55,7 +55,7 @@ fn has_section(file: &[u8], s: &SymbolEntry) -> bool
     requires { HasTable file.now }
     ensures { result ≡ has_section file.now s.now }
 {
-    s.section < count(file) || s.section == ABS || s.section == COMMON
+    s.section < section_count(file) || s.section == ABS || s.section == COMMON
 }
 
 fn is_in_memory(file: &[u8], index: u16) -> bool
@@ -65,7 +65,7 @@ fn is_in_memory(file: &[u8], index: u16) -> bool
     if index == UNDEF {
         return false;
     }
-    if index >= count(file) {
+    if index >= section_count(file) {
         return false;
     }
     is_allocated(&header(file, index))
@@ -247,7 +247,7 @@ fn rela_table_fault(file: &[u8], symbols: Symbols, r: u16, is_patched: bool) -> 
     if table.kind != RELA {
         return None;
     }
-    if table.info >= count(file) as u32 {
+    if table.info >= section_count(file) as u32 {
         return Some(ElfFault::RelocationTable(header_offset(file, r)));
     }
     let target = header(file, table.info as u16);
@@ -276,7 +276,7 @@ fn rela_tables_fault(file: &[u8], symtab: Option<u16>) -> Option<ElfFault>
         count: symbol_count(file, symtab),
     };
     let mut patched = no_marks();
-    for r in 0..count(file) {
+    for r in 0..section_count(file) {
         let table = header(file, r);
         let is_patched = is_marked(&patched, table.info);
         if let Some(fault) = rela_table_fault(file, symbols, r, is_patched) {

@@ -104,12 +104,15 @@ fn sender(alloc: Global) -> Result<Vec<u8>, AllocError> {
     Ok(out)
 }
 
-/// The file with bytes written over some of its own; a place past its end is passed over.
-fn edited(alloc: Global, file: &[u8], edits: &[(usize, u8)]) -> Result<Vec<u8>, AllocError> {
+/// The file with bytes written over some of its own.
+fn edited(alloc: Global, file: &[u8], edits: &[(usize, &[u8])]) -> Result<Vec<u8>, AllocError> {
     let mut out = file.to_vec(alloc)?;
-    for (at, b) in edits {
-        if let Some(place) = out.get_mut(*at) {
-            *place = *b;
+    for (at, bytes) in edits {
+        if *at <= out.len() {
+            let (_, tail) = out.as_mut_slice().split_at_mut(*at);
+            for (place, b) in tail.iter_mut().zip(bytes.iter()) {
+                *place = *b;
+            }
         }
     }
     Ok(out)
@@ -188,11 +191,7 @@ fn reads_an_object(rt: HostRuntime) -> Result<(), Fail> {
 #[test]
 fn reads_a_negative_addend(rt: HostRuntime) -> Result<(), Fail> {
     let file = sender(rt.alloc())?;
-    let file = edited(
-        rt.alloc(),
-        &file,
-        &[(75, 0xFE), (76, 0xFF), (77, 0xFF), (78, 0xFF)],
-    )?;
+    let file = edited(rt.alloc(), &file, &[(75, &[0xFE, 0xFF, 0xFF, 0xFF])])?;
     assert!(rt; file.len() <= MAX_FILE);
     let o = read_object(&file).map_err(|_| "a fault")?;
     assert!(rt; o.section_count() > 4);
@@ -205,256 +204,112 @@ fn reads_a_negative_addend(rt: HostRuntime) -> Result<(), Fail> {
 /// Symbols begin at 140, relocations of `.text.send` at 67.
 #[test]
 fn answers_the_first_fault(rt: HostRuntime) -> Result<(), Fail> {
-    let cases: [(&[(usize, u8)], ElfFault); 73] = [
+    let cases: [(&[(usize, &[u8])], ElfFault); 73] = [
         // The identification, by its first byte that differs.
-        (&[(4, 2)], ElfFault::NotElf(4)),
-        (&[(0, 126)], ElfFault::NotElf(0)),
-        (&[(6, 0)], ElfFault::NotElf(6)),
-        (&[(5, 2), (4, 2)], ElfFault::NotElf(4)),
-        (&[(3, 0), (18, 82)], ElfFault::NotElf(3)),
+        (&[(4, &[2])], ElfFault::NotElf(4)),
+        (&[(0, &[126])], ElfFault::NotElf(0)),
+        (&[(6, &[0])], ElfFault::NotElf(6)),
+        (&[(5, &[2]), (4, &[2])], ElfFault::NotElf(4)),
+        (&[(3, &[0]), (18, &[82])], ElfFault::NotElf(3)),
         // Machine, architecture, file type.
-        (&[(18, 82)], ElfFault::NotAvr(18)),
-        (&[(19, 1)], ElfFault::NotAvr(18)),
-        (&[(36, 6)], ElfFault::NotAvr(36)),
-        (&[(36, 178)], ElfFault::NotAvr(36)),
-        (&[(18, 82), (36, 6)], ElfFault::NotAvr(18)),
-        (&[(16, 2)], ElfFault::NotRelocatable(16)),
-        (&[(16, 2), (36, 6)], ElfFault::NotAvr(36)),
-        (&[(16, 2), (46, 41)], ElfFault::NotRelocatable(16)),
+        (&[(18, &[82])], ElfFault::NotAvr(18)),
+        (&[(19, &[1])], ElfFault::NotAvr(18)),
+        (&[(36, &[6])], ElfFault::NotAvr(36)),
+        (&[(36, &[178])], ElfFault::NotAvr(36)),
+        (&[(18, &[82]), (36, &[6])], ElfFault::NotAvr(18)),
+        (&[(16, &[2])], ElfFault::NotRelocatable(16)),
+        (&[(16, &[2]), (36, &[6])], ElfFault::NotAvr(36)),
+        (&[(16, &[2]), (46, &[41])], ElfFault::NotRelocatable(16)),
         // The section table.
-        (&[(46, 41)], ElfFault::SectionTable(46)),
-        (&[(48, 0)], ElfFault::SectionTable(48)),
-        (&[(46, 39), (48, 0)], ElfFault::SectionTable(46)),
-        (&[(48, 14)], ElfFault::SectionTable(32)),
-        (
-            &[(32, 255), (33, 255), (34, 255), (35, 255)],
-            ElfFault::SectionTable(32),
-        ),
-        (
-            &[(32, 255), (33, 255), (34, 255), (35, 255), (50, 13)],
-            ElfFault::SectionTable(32),
-        ),
-        (&[(49, 255)], ElfFault::SectionTable(32)),
-        (&[(50, 13)], ElfFault::SectionTable(50)),
-        (
-            &[(50, 13), (618, 255), (619, 255), (620, 255), (621, 255)],
-            ElfFault::SectionTable(50),
-        ),
+        (&[(46, &[41])], ElfFault::SectionTable(46)),
+        (&[(48, &[0])], ElfFault::SectionTable(48)),
+        (&[(46, &[39]), (48, &[0])], ElfFault::SectionTable(46)),
+        (&[(48, &[14])], ElfFault::SectionTable(32)),
+        (&[(32, &[255; 4])], ElfFault::SectionTable(32)),
+        (&[(32, &[255; 4]), (50, &[13])], ElfFault::SectionTable(32)),
+        (&[(49, &[255])], ElfFault::SectionTable(32)),
+        (&[(50, &[13])], ElfFault::SectionTable(50)),
+        (&[(50, &[13]), (618, &[255; 4])], ElfFault::SectionTable(50)),
         // A section past the file, also where the sum would wrap, and an empty one.
+        (&[(618, &[255; 4])], ElfFault::SectionTable(602)),
+        (&[(622, &[255; 4])], ElfFault::SectionTable(602)),
         (
-            &[(618, 255), (619, 255), (620, 255), (621, 255)],
+            &[(618, &[248, 255, 255, 255, 8, 0, 0, 0])],
             ElfFault::SectionTable(602),
         ),
+        (&[(498, &[195, 3, 0, 0])], ElfFault::SectionTable(482)),
+        (&[(778, &[191, 3, 0, 0])], ElfFault::SectionTable(762)),
         (
-            &[(622, 255), (623, 255), (624, 255), (625, 255)],
-            ElfFault::SectionTable(602),
-        ),
-        (
-            &[
-                (618, 248),
-                (619, 255),
-                (620, 255),
-                (621, 255),
-                (622, 8),
-                (623, 0),
-                (624, 0),
-                (625, 0),
-            ],
-            ElfFault::SectionTable(602),
-        ),
-        (
-            &[(498, 195), (499, 3), (500, 0), (501, 0)],
-            ElfFault::SectionTable(482),
-        ),
-        (
-            &[(778, 191), (779, 3), (780, 0), (781, 0)],
-            ElfFault::SectionTable(762),
-        ),
-        (
-            &[
-                (778, 191),
-                (779, 3),
-                (780, 0),
-                (781, 0),
-                (606, 9),
-                (607, 0),
-                (608, 0),
-                (609, 0),
-            ],
+            &[(778, &[191, 3, 0, 0]), (606, &[9, 0, 0, 0])],
             ElfFault::SectionTable(762),
         ),
         // Sections that are not read.
+        (&[(766, &[9, 0, 0, 0])], ElfFault::Unsupported(762, 9)),
+        (&[(766, &[17, 0, 0, 0])], ElfFault::Unsupported(762, 17)),
+        (&[(766, &[18, 0, 0, 0])], ElfFault::Unsupported(762, 18)),
+        (&[(606, &[7, 0, 0, 0])], ElfFault::Unsupported(602, 7)),
+        (&[(450, &[2, 0, 0, 0])], ElfFault::Unsupported(442, 0)),
+        (&[(850, &[2, 0, 0, 0])], ElfFault::Unsupported(842, 2)),
         (
-            &[(766, 9), (767, 0), (768, 0), (769, 0)],
-            ElfFault::Unsupported(762, 9),
-        ),
-        (
-            &[(766, 17), (767, 0), (768, 0), (769, 0)],
-            ElfFault::Unsupported(762, 17),
-        ),
-        (
-            &[(766, 18), (767, 0), (768, 0), (769, 0)],
-            ElfFault::Unsupported(762, 18),
-        ),
-        (
-            &[(606, 7), (607, 0), (608, 0), (609, 0)],
-            ElfFault::Unsupported(602, 7),
-        ),
-        (
-            &[(450, 2), (451, 0), (452, 0), (453, 0)],
-            ElfFault::Unsupported(442, 0),
-        ),
-        (
-            &[(850, 2), (851, 0), (852, 0), (853, 0)],
-            ElfFault::Unsupported(842, 2),
-        ),
-        (
-            &[(766, 9), (767, 0), (768, 0), (769, 0), (50, 4)],
+            &[(766, &[9, 0, 0, 0]), (50, &[4])],
             ElfFault::Unsupported(762, 9),
         ),
         // Names of sections.
-        (&[(50, 4)], ElfFault::StringTable(602)),
-        (&[(441, 1)], ElfFault::StringTable(922)),
+        (&[(50, &[4])], ElfFault::StringTable(602)),
+        (&[(441, &[1])], ElfFault::StringTable(922)),
+        (&[(942, &[0; 4])], ElfFault::StringTable(922)),
+        (&[(762, &[122, 0, 0, 0])], ElfFault::StringTable(762)),
         (
-            &[(942, 0), (943, 0), (944, 0), (945, 0)],
-            ElfFault::StringTable(922),
-        ),
-        (
-            &[(762, 122), (763, 0), (764, 0), (765, 0)],
-            ElfFault::StringTable(762),
-        ),
-        (
-            &[
-                (762, 122),
-                (763, 0),
-                (764, 0),
-                (765, 0),
-                (722, 255),
-                (723, 255),
-                (724, 255),
-                (725, 255),
-            ],
+            &[(762, &[122, 0, 0, 0]), (722, &[255; 4])],
             ElfFault::StringTable(722),
         ),
         (
-            &[
-                (762, 122),
-                (763, 0),
-                (764, 0),
-                (765, 0),
-                (766, 2),
-                (767, 0),
-                (768, 0),
-                (769, 0),
-            ],
+            &[(762, &[122, 0, 0, 0, 2, 0, 0, 0])],
             ElfFault::StringTable(762),
         ),
         // The symbol table: a second one before the link of the first, the link before its entries.
+        (&[(766, &[2, 0, 0, 0])], ElfFault::SymbolTable(842)),
+        (&[(886, &[2, 0, 0, 0])], ElfFault::SymbolTable(882)),
+        (&[(866, &[13, 0, 0, 0])], ElfFault::StringTable(842)),
+        (&[(866, &[255; 4])], ElfFault::StringTable(842)),
+        (&[(866, &[4, 0, 0, 0])], ElfFault::StringTable(842)),
+        (&[(319, &[1])], ElfFault::StringTable(842)),
         (
-            &[(766, 2), (767, 0), (768, 0), (769, 0)],
-            ElfFault::SymbolTable(842),
-        ),
-        (
-            &[(886, 2), (887, 0), (888, 0), (889, 0)],
-            ElfFault::SymbolTable(882),
-        ),
-        (
-            &[(866, 13), (867, 0), (868, 0), (869, 0)],
+            &[(866, &[13, 0, 0, 0]), (878, &[15, 0, 0, 0])],
             ElfFault::StringTable(842),
         ),
-        (
-            &[(866, 255), (867, 255), (868, 255), (869, 255)],
-            ElfFault::StringTable(842),
-        ),
-        (
-            &[(866, 4), (867, 0), (868, 0), (869, 0)],
-            ElfFault::StringTable(842),
-        ),
-        (&[(319, 1)], ElfFault::StringTable(842)),
-        (
-            &[
-                (866, 13),
-                (867, 0),
-                (868, 0),
-                (869, 0),
-                (878, 15),
-                (879, 0),
-                (880, 0),
-                (881, 0),
-            ],
-            ElfFault::StringTable(842),
-        ),
-        (
-            &[(878, 15), (879, 0), (880, 0), (881, 0)],
-            ElfFault::SymbolTable(842),
-        ),
-        (
-            &[(862, 127), (863, 0), (864, 0), (865, 0)],
-            ElfFault::SymbolTable(842),
-        ),
-        (
-            &[(862, 0), (863, 0), (864, 0), (865, 0)],
-            ElfFault::SymbolTable(842),
-        ),
+        (&[(878, &[15, 0, 0, 0])], ElfFault::SymbolTable(842)),
+        (&[(862, &[127, 0, 0, 0])], ElfFault::SymbolTable(842)),
+        (&[(862, &[0; 4])], ElfFault::SymbolTable(842)),
         // Symbols: name, binding, section, value.
+        (&[(188, &[52, 0, 0, 0])], ElfFault::SymbolTable(188)),
+        (&[(200, &[50])], ElfFault::SymbolTable(188)),
+        (&[(202, &[13])], ElfFault::SymbolTable(188)),
+        (&[(202, &[255; 2])], ElfFault::SymbolTable(188)),
+        (&[(202, &[240, 255])], ElfFault::SymbolTable(188)),
+        (&[(192, &[13])], ElfFault::SymbolTable(188)),
+        (&[(192, &[13]), (184, &[51])], ElfFault::SymbolTable(172)),
         (
-            &[(188, 52), (189, 0), (190, 0), (191, 0)],
-            ElfFault::SymbolTable(188),
-        ),
-        (&[(200, 50)], ElfFault::SymbolTable(188)),
-        (&[(202, 13)], ElfFault::SymbolTable(188)),
-        (&[(202, 255), (203, 255)], ElfFault::SymbolTable(188)),
-        (&[(202, 240), (203, 255)], ElfFault::SymbolTable(188)),
-        (&[(192, 13)], ElfFault::SymbolTable(188)),
-        (&[(192, 13), (184, 51)], ElfFault::SymbolTable(172)),
-        (
-            &[(266, 13), (670, 13), (671, 0), (672, 0), (673, 0)],
+            &[(266, &[13]), (670, &[13, 0, 0, 0])],
             ElfFault::SymbolTable(252),
         ),
         // Tables of relocations; the last is a second one for a section.
-        (
-            &[(670, 13), (671, 0), (672, 0), (673, 0)],
-            ElfFault::RelocationTable(642),
-        ),
-        (
-            &[(670, 4), (671, 0), (672, 1), (673, 0)],
-            ElfFault::RelocationTable(642),
-        ),
-        (
-            &[(666, 11), (667, 0), (668, 0), (669, 0)],
-            ElfFault::RelocationTable(642),
-        ),
-        (
-            &[(846, 7), (847, 0), (848, 0), (849, 0)],
-            ElfFault::RelocationTable(642),
-        ),
-        (
-            &[(678, 11), (679, 0), (680, 0), (681, 0)],
-            ElfFault::RelocationTable(642),
-        ),
-        (
-            &[(662, 47), (663, 0), (664, 0), (665, 0)],
-            ElfFault::RelocationTable(642),
-        ),
-        (
-            &[(670, 3), (671, 0), (672, 0), (673, 0)],
-            ElfFault::RelocationTable(642),
-        ),
-        (
-            &[(830, 4), (831, 0), (832, 0), (833, 0)],
-            ElfFault::RelocationTable(802),
-        ),
+        (&[(670, &[13, 0, 0, 0])], ElfFault::RelocationTable(642)),
+        (&[(670, &[4, 0, 1, 0])], ElfFault::RelocationTable(642)),
+        (&[(666, &[11, 0, 0, 0])], ElfFault::RelocationTable(642)),
+        (&[(846, &[7, 0, 0, 0])], ElfFault::RelocationTable(642)),
+        (&[(678, &[11, 0, 0, 0])], ElfFault::RelocationTable(642)),
+        (&[(662, &[47, 0, 0, 0])], ElfFault::RelocationTable(642)),
+        (&[(670, &[3, 0, 0, 0])], ElfFault::RelocationTable(642)),
+        (&[(830, &[4, 0, 0, 0])], ElfFault::RelocationTable(802)),
         // Relocations.
-        (&[(67, 12)], ElfFault::RelocationTable(67)),
-        (&[(72, 8)], ElfFault::SymbolIndex(67)),
+        (&[(67, &[12])], ElfFault::RelocationTable(67)),
+        (&[(72, &[8])], ElfFault::SymbolIndex(67)),
+        (&[(72, &[255; 3])], ElfFault::SymbolIndex(67)),
+        (&[(67, &[12]), (72, &[8])], ElfFault::RelocationTable(67)),
+        (&[(84, &[8]), (91, &[12])], ElfFault::SymbolIndex(79)),
         (
-            &[(72, 255), (73, 255), (74, 255)],
-            ElfFault::SymbolIndex(67),
-        ),
-        (&[(67, 12), (72, 8)], ElfFault::RelocationTable(67)),
-        (&[(84, 8), (91, 12)], ElfFault::SymbolIndex(79)),
-        (
-            &[(103, 255), (830, 13), (831, 0), (832, 0), (833, 0)],
+            &[(103, &[255]), (830, &[13, 0, 0, 0])],
             ElfFault::RelocationTable(103),
         ),
     ];
@@ -469,42 +324,29 @@ fn answers_the_first_fault(rt: HostRuntime) -> Result<(), Fail> {
 /// What is just within the rules.
 #[test]
 fn reads_what_has_no_fault(rt: HostRuntime) -> Result<(), Fail> {
-    let cases: [&[(usize, u8)]; 16] = [
+    let cases: [&[(usize, &[u8])]; 16] = [
         // Nothing changed; the architecture avr51; other flags of a section.
         &[],
-        &[(36, 51)],
-        &[(36, 5)],
-        &[(610, 246), (611, 255)],
+        &[(36, &[51])],
+        &[(36, &[5])],
+        &[(610, &[246, 255])],
         // A section without bytes lies anywhere.
-        &[(578, 255), (579, 255), (580, 255), (581, 255)],
+        &[(578, &[255; 4])],
         // Names that begin at the last byte of their table.
-        &[(762, 121), (763, 0), (764, 0), (765, 0)],
-        &[(188, 51), (189, 0), (190, 0), (191, 0)],
+        &[(762, &[121, 0, 0, 0])],
+        &[(188, &[51, 0, 0, 0])],
         // Absolute and common symbols; a value at the end of its section; one in a section that is not allocated.
-        &[(202, 241), (203, 255)],
-        &[(202, 242), (203, 255)],
-        &[(192, 12)],
-        &[(192, 255), (202, 8)],
+        &[(202, &[241, 255])],
+        &[(202, &[242, 255])],
+        &[(192, &[12])],
+        &[(192, &[255]), (202, &[8])],
         // Of a table for a section that is not allocated nothing else is read, and there may be two.
-        &[
-            (838, 11),
-            (839, 0),
-            (840, 0),
-            (841, 0),
-            (822, 13),
-            (823, 0),
-            (824, 0),
-            (825, 0),
-            (826, 0),
-            (827, 0),
-            (828, 0),
-            (829, 0),
-        ],
-        &[(670, 8), (671, 0), (672, 0), (673, 0)],
+        &[(838, &[11, 0, 0, 0]), (822, &[13, 0, 0, 0, 0, 0, 0, 0])],
+        &[(670, &[8, 0, 0, 0])],
         // A relocation at the last byte; a type that is no relocation; a table without entries.
-        &[(67, 11)],
-        &[(71, 33)],
-        &[(662, 0), (663, 0), (664, 0), (665, 0)],
+        &[(67, &[11])],
+        &[(71, &[33])],
+        &[(662, &[0; 4])],
     ];
     let file = sender(rt.alloc())?;
     for edits in cases {
@@ -538,7 +380,7 @@ fn answers_a_cut_file(rt: HostRuntime) -> Result<(), Fail> {
 fn reads_an_object_without_symbols(rt: HostRuntime) -> Result<(), Fail> {
     let file = sender(rt.alloc())?;
     // The symbol table and both tables of relocations become notes.
-    let file = edited(rt.alloc(), &file, &[(646, 7), (806, 7), (846, 7)])?;
+    let file = edited(rt.alloc(), &file, &[(646, &[7]), (806, &[7]), (846, &[7])])?;
     assert!(rt; file.len() <= MAX_FILE);
     let o = read_object(&file).map_err(|_| "a fault")?;
     assert_eq!(rt; o.symbol_count(), 0);

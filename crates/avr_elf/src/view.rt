@@ -1,10 +1,9 @@
 //! An object, seen in its file.
 
-use crate::header::count;
 use crate::part::{Section, Symbol};
 use crate::rela_table::RelaTable;
 use crate::relocation::Rela;
-use crate::{lookup, tables};
+use crate::{header, lookup, tables};
 use std::marker::Model;
 
 /// An object that was read, over its file. Sections, symbols and relocations go by their indexes in
@@ -45,10 +44,10 @@ impl<'a> ObjectView<'a> {
         ensures count { result ≡ length self.now.sections }
         ensures well_formed { IsWellFormed self.now }
     {
-        count(self.file)
+        header::section_count(self.file)
     }
 
-    /// Section `i`.
+    /// Section `i`. Each call measures the name anew, up to its zero byte.
     pub fn section(&self, i: u16) -> Section<'a>
         requires { i < length self.now.sections }
         ensures { slice_get self.now.sections i ≡ Some (section_parts result) }
@@ -64,7 +63,8 @@ impl<'a> ObjectView<'a> {
         tables::symbol_count(self.file, self.symtab)
     }
 
-    /// Symbol `i`.
+    /// Symbol `i`. Each call measures the name anew, up to its zero byte; names may share bytes, so the
+    /// names of all symbols together can be longer than the file.
     pub fn symbol(&self, i: u32) -> Symbol<'a>
         requires { i < length self.now.symbols }
         ensures { slice_get self.now.symbols i ≡ Some (symbol_parts result) }
