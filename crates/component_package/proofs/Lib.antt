@@ -1,1 +1,8 @@
 pub mod Unique
+pub mod First
+pub mod Lists
+pub mod HeaderLemmas
+pub mod Steps
+pub mod Spelled
+pub mod Sound
+pub mod ReadAgain
