@@ -12,7 +12,7 @@ use Rattle.component_package.specs.Reading.{first_fault, header_of, header_fault
 use Rattle.component_package.specs.Grammar.{Spells}
 use Rattle.component_package.specs.Laws.{FaultlessBytesSpell, SpellingIsOne, StepsFindTheFault, export_step, reloc_step, fault_by_steps}
 use Rattle.component_package.proofs.First.{first_fault-same}
-use Rattle.component_package.proofs.Sound.{spells}
+use Rattle.component_package.proofs.InGrammar.{spells}
 use Rattle.component_package.proofs.ReadAgain.{spelling_faultless, spelling_said}
 use Rattle.component_package.proofs.Steps.{export_said, reloc_said, reloc_step_is}
 

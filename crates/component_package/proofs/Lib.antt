@@ -4,6 +4,8 @@ pub mod Lists
 pub mod HeaderLemmas
 pub mod Steps
 pub mod Spelled
-pub mod Sound
+pub mod InGrammar
 pub mod ReadAgain
 pub mod Laws
+pub mod Examples
+mod MachineExamples

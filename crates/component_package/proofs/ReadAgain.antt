@@ -26,7 +26,7 @@ use Rattle.component_package.specs.Reading.{header_of, header_of_component, expo
 use Rattle.component_package.specs.Grammar.{IsExport, ExportsRise, part_of_reloc, IsReloc, position_in, RelocsRise, IsComponent, Spells}
 use Rattle.component_package.proofs.First.{none_first}
 use Rattle.component_package.proofs.Lists.{entry_in, length-entries, list_of_entries, all_at, Rises, rises_next, rises_above}
-use Rattle.component_package.proofs.Sound.{is_zero, part_slice, length_of_part, widths}
+use Rattle.component_package.proofs.InGrammar.{is_zero, part_slice, length_of_part, widths}
 use Rattle.component_package.proofs.Steps.{faultless_parts}
 
 -- ---- the header
