@@ -34,9 +34,22 @@ spelling_is_one = record {
 -- the header stands in the first 32 bytes, however few there are
 header_in_front : (b : List ℕ) → header_of (take 32 b) ≡ header_of b
 header_in_front b =
-    rw (get_or-take 32 b 4 0 (omega arith), get_or-take 32 b 5 0 (omega arith), get_or-take 32 b 6 0 (omega arith), get_or-take 32 b 7 0 (omega arith), get_or-take 32 b 8 0 (omega arith),
-      get_or-take 32 b 9 0 (omega arith), get_or-take 32 b 10 0 (omega arith), get_or-take 32 b 11 0 (omega arith), get_or-take 32 b 12 0 (omega arith), get_or-take 32 b 13 0 (omega arith),
-      get_or-take 32 b 14 0 (omega arith), get_or-take 32 b 15 0 (omega arith), get_or-take 32 b 16 0 (omega arith), get_or-take 32 b 17 0 (omega arith)) refl
+    rw (
+      get_or-take 32 b 4 0 (omega arith),
+      get_or-take 32 b 5 0 (omega arith),
+      get_or-take 32 b 6 0 (omega arith),
+      get_or-take 32 b 7 0 (omega arith),
+      get_or-take 32 b 8 0 (omega arith),
+      get_or-take 32 b 9 0 (omega arith),
+      get_or-take 32 b 10 0 (omega arith),
+      get_or-take 32 b 11 0 (omega arith),
+      get_or-take 32 b 12 0 (omega arith),
+      get_or-take 32 b 13 0 (omega arith),
+      get_or-take 32 b 14 0 (omega arith),
+      get_or-take 32 b 15 0 (omega arith),
+      get_or-take 32 b 16 0 (omega arith),
+      get_or-take 32 b 17 0 (omega arith),
+    ) refl
 
 magic_in_front : (b : List ℕ) → has_magic (take 32 b) ≡ has_magic b
 magic_in_front b = rw (get_or-take 32 b 0 0 (omega arith), get_or-take 32 b 1 0 (omega arith), get_or-take 32 b 2 0 (omega arith), get_or-take 32 b 3 0 (omega arith)) refl
@@ -49,7 +62,7 @@ blank_in_front b = ap (take 14) (drop-take 18 14 b) ∙ take-take 14 14 (drop 18
 abbrev fault_by_tests : Bool → List ℕ → Header → ℕ → Option PackageFault
 fault_by_tests magic blank h n =
     cond (nat_lt n 32) (Some Short) (cond (not magic) (Some Magic) (cond (not (list_all (λ x. eqb x 0) blank)) (Some Reserved)
-      (cond (not (has_even_lengths h)) (Some Parity) (cond (not (has_its_length h n)) (Some Length) None))))
+    (cond (not (has_even_lengths h)) (Some Parity) (cond (not (has_its_length h n)) (Some Length) None))))
 
 -- so the header's fault is that of the first 32 bytes
 header_fault_in_front : (b : List ℕ) → header_fault (take 32 b) (length b) ≡ header_fault b (length b)

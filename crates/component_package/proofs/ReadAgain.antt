@@ -270,7 +270,7 @@ passes : (h : Header) (before : Option Reloc) (i : ℕ) (raw field : List ℕ) (
     → is_behind before r ≡ true → has_target r ≡ true → is_clear kind field ≡ true → reloc_in h before i raw field (Some kind) ≡ Ok r
 passes h before i raw field kind r said byte inside aligned behind target clear =
     ap (λ (x : Reloc). cond (not (has_place h raw x)) (Err (RelocPlace i)) (cond (not (is_behind before x)) (Err (RelocOrder i))
-      (cond (not (has_target x)) (Err (Target i)) (cond (not (is_clear kind field)) (Err (FieldNotZero i)) (Ok x))))) said
+    (cond (not (has_target x)) (Err (Target i)) (cond (not (is_clear kind field)) (Err (FieldNotZero i)) (Ok x))))) said
     ∙ rw (byte, inside, aligned, behind, target, clear) refl
 
 -- the checks pass a relocation that the grammar allows
@@ -311,9 +311,9 @@ pub spelling_faultless : (c : Component) → IsComponent c → package_fault (sp
 spelling_faultless c w =
     let s = spelling c in
     let exports = none_first (export_fault s) (length c.exports)
-      (λ i lt. no_fault_at c.exports i lt (λ x here. export_faultless c w i x here)) in
+    (λ i lt. no_fault_at c.exports i lt (λ x here. export_faultless c w i x here)) in
     let relocs = none_first (reloc_fault s) (length c.relocs)
-      (λ i lt. no_fault_at c.relocs i lt (λ x here. reloc_faultless c w i x here)) in
+    (λ i lt. no_fault_at c.relocs i lt (λ x here. reloc_faultless c w i x here)) in
     faultless_parts s (header_sound c w)
     (ap (λ (h : Header). first_fault (export_fault s) h.exports) (header_again c) ∙ exports)
     (ap (λ (h : Header). first_fault (reloc_fault s) h.relocs) (header_again c) ∙ relocs)
@@ -336,7 +336,7 @@ spelling_said c w =
     let s = spelling c in
     let exports = list_of_entries (λ i. export_of (raw_export s i)) c.exports (λ i e here. ap export_of (raw_export_again c i e here) ∙ export_again e) in
     let relocs = list_of_entries (λ i. reloc_of (raw_reloc s i)) c.relocs
-      (λ i r here. ap reloc_of (raw_reloc_again c i r here) ∙ reloc_said_again r (all_at (IsReloc c) c.relocs i r w.relocs here).addend) in
+    (λ i r here. ap reloc_of (raw_reloc_again c i r here) ∙ reloc_said_again r (all_at (IsReloc c) c.relocs i r w.relocs here).addend) in
     ap (component_by s) (header_again c)
     ∙ ap (λ (x : List ℕ). record (component_by s (header_of_component c)) { code = x }) (code_again c)
     ∙ ap (λ (x : List ℕ). record c { init = x; exports = list_of (λ i. export_of (raw_export s i)) (length c.exports); relocs = list_of (λ i. reloc_of (raw_reloc s i)) (length c.relocs) }) (init_again c)

@@ -46,3 +46,6 @@ pub fn spelling_is_one()
 pub fn steps_find_the_fault()
     ensures { StepsFindTheFault }
 {}
+
+#[cfg(test)]
+mod tests;
