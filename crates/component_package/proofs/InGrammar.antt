@@ -19,7 +19,7 @@ use Rattle.component_package.specs.Numbers.{u16_at}
 use Rattle.component_package.specs.Component.{Component, spelling}
 use Rattle.component_package.specs.Reading.{header_of, exports_at, relocs_at, total_of, length_of, is_above, export_of, raw_export, symbol_before, export_fault, reloc_width, reloc_end, is_inside, is_aligned, begins_after, is_behind, has_target, is_clear, field_at, reloc_of, raw_reloc, reloc_before, raw_field, reloc_fault, package_fault, component_of, header_of_component}
 use Rattle.component_package.specs.Grammar.{IsExport, ExportsRise, part_of_reloc, IsReloc, position_in, RelocsRise, IsComponent, Spells}
-use Rattle.component_package.proofs.Lists.{Rises, rises_list, free_at, all_of_list}
+use Rattle.component_package.proofs.Lists.{is_zero, all_zeros, Rises, rises_list, free_at, all_of_list}
 use Rattle.component_package.proofs.HeaderLemmas.{parts_have_lengths}
 use Rattle.component_package.proofs.Spelled.{IsGoodExport, good_export, IsGoodReloc, good_reloc, IsFaultless, faultless, spelled}
 
@@ -30,7 +30,8 @@ u16_fits : (b : List ℕ) (at : ℕ) → AreBytes b → u16_at b at < 65536
 u16_fits b at bytes = omega (arith, bytes at, bytes (at + 1))
 
 -- a slice of a slice
-pub slice_slice : (b : List ℕ) (low w i n : ℕ) → low + w ≤ length b → i + n ≤ w → slice_range (slice_range b low (low + w)) i (i + n) ≡ slice_range b (low + i) (low + i + n)
+pub slice_slice : (b : List ℕ) (low w i n : ℕ) → low + w ≤ length b → i + n ≤ w
+    → slice_range (slice_range b low (low + w)) i (i + n) ≡ slice_range b (low + i) (low + i + n)
 slice_slice b low w i n within inside =
     let outer = length-field b low w within in
     let inner : length (slice_range (slice_range b low (low + w)) i (i + n)) ≡ n = length-field (slice_range b low (low + w)) i n (omega arith) in
@@ -41,10 +42,6 @@ slice_slice b low w i n within inside =
 
 -- ---- value bits
 
--- a byte is 0
-abbrev pub is_zero : ℕ → Bool
-is_zero x = eqb x 0
-
 -- what is clear with more bytes behind is clear
 clear_front : (q more mask : List ℕ) → list_all is_zero (masked (q ++ more) mask) ≡ true → list_all is_zero (masked q mask) ≡ true
 clear_front [] more mask e = refl
@@ -52,15 +49,6 @@ clear_front (x ∷ q) more [] e = refl
 clear_front (x ∷ q) more (m ∷ mask) e =
     let both = and_parts (is_zero (bit_and x m)) (list_all is_zero (masked (q ++ more) mask)) e in
     rw both.0 (clear_front q more mask both.1)
-
--- bytes that are all zeros
-zeros : (xs : List ℕ) → list_all is_zero xs ≡ true → xs ≡ replicate (length xs) 0
-zeros [] e = refl
-zeros (x ∷ xs) e =
-    let both = and_parts (is_zero x) (list_all is_zero xs) e in
-    let here = eqb-true x 0 both.0 in
-    let rest = zeros xs both.1 in
-    ap (λ y. y ∷ xs) here ∙ ap (λ (ys : List ℕ). 0 ∷ ys) rest
 
 length-masked : (q mask : List ℕ) → length q ≤ length mask → length (masked q mask) ≡ length q
 length-masked [] mask le = refl
@@ -89,7 +77,7 @@ zero_value : (s : Shape) (q more : List ℕ) → length q ≡ width_of s → lis
 zero_value s q more wide e =
     let w = widths s in
     let long = length-masked q (mask_of s) (omega (arith, w.four, w.mask, wide)) in
-    zeros (masked q (mask_of s)) (clear_front q more (mask_of s) e) ∙ ap (λ n. replicate n 0) (long ∙ wide)
+    all_zeros (masked q (mask_of s)) (clear_front q more (mask_of s) e) ∙ ap (λ n. replicate n 0) (long ∙ wide)
 
 -- ---- tests that came out true
 

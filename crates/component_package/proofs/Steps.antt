@@ -42,7 +42,8 @@ past_value false x f y e = cc
 
 -- ---- exports
 
-placed : (h : Header) (i : ℕ) (raw : List ℕ) (place : Option Place) (e : Export) → export_in h i raw place ≡ Ok e → e ≡ record (export_of raw) { place = unwrap_or place places.Code }
+placed : (h : Header) (i : ℕ) (raw : List ℕ) (place : Option Place) (e : Export) → export_in h i raw place ≡ Ok e
+    → e ≡ record (export_of raw) { place = unwrap_or place places.Code }
 placed h i raw None e here = absurd cc
 placed h i raw (Some place) e here = taken_value _ _ _ _ here
 
@@ -56,14 +57,16 @@ pub export_fault_is : (b : List ℕ) (h : Header) (before : Option ℕ) (i : ℕ
 export_fault_is b h before i raw r header former there result = rw (result, header, former, there) refl
 
 -- the symbol before the next export
-pub symbol_after : (b : List ℕ) (h : Header) (before : Option ℕ) (i : ℕ) (raw : List ℕ) (e : Export) → raw ≡ raw_export b i → Ok e ≡ check_export_of h before i raw → Some e.symbol ≡ symbol_before b (i + 1)
+pub symbol_after : (b : List ℕ) (h : Header) (before : Option ℕ) (i : ℕ) (raw : List ℕ) (e : Export) → raw ≡ raw_export b i
+    → Ok e ≡ check_export_of h before i raw → Some e.symbol ≡ symbol_before b (i + 1)
 symbol_after b h before i raw e there result =
     let said = export_said h before i raw e (sym result) in
     rw (add-one, said, there) refl
 
 -- ---- relocations
 
-accepted : (h : Header) (before : Option Reloc) (i : ℕ) (raw field : List ℕ) (kind : Option RelocType) (r : Reloc) → reloc_in h before i raw field kind ≡ Ok r → r ≡ reloc_with raw (unwrap_or kind Abs32)
+accepted : (h : Header) (before : Option Reloc) (i : ℕ) (raw field : List ℕ) (kind : Option RelocType) (r : Reloc)
+    → reloc_in h before i raw field kind ≡ Ok r → r ≡ reloc_with raw (unwrap_or kind Abs32)
 accepted h before i raw field None r here = absurd cc
 accepted h before i raw field (Some kind) x here =
     let r = reloc_with raw kind in
@@ -94,7 +97,8 @@ reloc_fault_is b h before i raw field r header former there span result =
     rw (result, span, header, former, there) (ap result_err (sym (field_counts b (reloc_before b i) i (raw_reloc b i) (kind_of (get_or (raw_reloc b i) 3 0)))))
 
 -- the relocation before the next one
-pub reloc_after : (b : List ℕ) (h : Header) (before : Option Reloc) (i : ℕ) (raw field : List ℕ) (r : Reloc) → raw ≡ raw_reloc b i → Ok r ≡ check_reloc_of h before i raw field → Some r ≡ reloc_before b (i + 1)
+pub reloc_after : (b : List ℕ) (h : Header) (before : Option Reloc) (i : ℕ) (raw field : List ℕ) (r : Reloc) → raw ≡ raw_reloc b i
+    → Ok r ≡ check_reloc_of h before i raw field → Some r ≡ reloc_before b (i + 1)
 reloc_after b h before i raw field r there result =
     let said = reloc_said h before i raw field r (sym result) in
     rw (add-one, said, there) refl
