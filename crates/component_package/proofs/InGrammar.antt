@@ -1,8 +1,8 @@
 -- What faultless bytes say is a component of the grammar.
-use Rattle.std.proofs.Common.{◌≡◌, ◌⊎◌, ℕ, zero, suc, ◌+◌, ◌-◌, ◌*◌, ◌%◌, ◌<◌, ◌≤◌, Bool, true, false, cond, eqb, Option, Some, None, List, [], ◌∷◌, ◌++◌, length, get_or, replicate, refl, sym, ap, subst, ◌∙◌, inl, inr, arith, slice_range}
-use Rattle.std.specs.Prelude.{not, ◌||◌, ◌&&◌, nat_le, nat_lt, bit_and, IsTrue, FitsSigned}
-use Rattle.std.specs.List.{list_all, AllByRecursion}
-use Rattle.std.specs.Int.{w16, cast_signed}
+use Rattle.std.proofs.Common.{◌≡◌, ◌⊎◌, ℕ, zero, suc, ◌+◌, ◌-◌, ◌*◌, ◌%◌, ◌<◌, ◌≤◌, Bool, true, false, cond, eqb, None, List, [], ◌∷◌, ◌++◌, length, get_or, replicate, refl, sym, ap, subst, ◌∙◌, inl, inr, arith, slice_range}
+use Rattle.std.specs.Prelude.{not, ◌||◌, ◌&&◌, nat_le, bit_and, IsTrue}
+use Rattle.std.specs.List.{list_all}
+use Rattle.std.specs.Int.{w16}
 use Rattle.std.proofs.Math.Facts.{sfits_to_z}
 use Rattle.std.proofs.lemmas.Bool.{and_parts, or_cases, leb-true, ltb-true, eqb-true}
 use Rattle.std.proofs.lemmas.Grind.{same_number_lists}
@@ -11,17 +11,16 @@ use Rattle.avr_reloc.specs.declared.kind.Shape.{Shape}
 use Rattle.avr_reloc.specs.declared.kind.Shape.TheVariants as shapes
 use Rattle.avr_reloc.specs.Field.{AreBytes, HasZeroValue, masked}
 use Rattle.avr_reloc.proofs.Fixups.{AreBytes-slice, length-field, get_or-slice}
-use Rattle.component_package.specs.declared.part.Place.{Place}
 use Rattle.component_package.specs.declared.part.Export.{Export}
 use Rattle.component_package.specs.declared.part.Header.{Header}
 use Rattle.component_package.specs.declared.part.Reloc.{Reloc}
 use Rattle.component_package.specs.Numbers.{u16_at}
-use Rattle.component_package.specs.Component.{Component, spelling}
-use Rattle.component_package.specs.Reading.{header_of, exports_at, relocs_at, total_of, length_of, is_above, export_of, raw_export, symbol_before, export_fault, reloc_width, reloc_end, is_inside, is_aligned, begins_after, is_behind, has_target, is_clear, field_at, reloc_of, raw_reloc, reloc_before, raw_field, reloc_fault, package_fault, component_of, header_of_component}
+use Rattle.component_package.specs.Component.{Component}
+use Rattle.component_package.specs.Reading.{header_of, exports_at, relocs_at, export_of, raw_export, symbol_before, reloc_width, reloc_end, is_inside, field_at, reloc_of, raw_reloc, reloc_before, raw_field, package_fault, component_of}
 use Rattle.component_package.specs.Grammar.{IsExport, ExportsRise, part_of_reloc, IsReloc, position_in, RelocsRise, IsComponent, Spells}
 use Rattle.component_package.proofs.Lists.{is_zero, all_zeros, Rises, rises_list, free_at, all_of_list}
 use Rattle.component_package.proofs.HeaderLemmas.{parts_have_lengths}
-use Rattle.component_package.proofs.Spelled.{IsGoodExport, good_export, IsGoodReloc, good_reloc, IsFaultless, faultless, spelled}
+use Rattle.component_package.proofs.Spelled.{good_export, IsGoodReloc, good_reloc, IsFaultless, faultless, spelled}
 
 -- ---- numbers and slices
 

@@ -1,8 +1,8 @@
 -- Lists of entries, and lists that rise.
-use Rattle.std.proofs.Common.{◌≡◌, ℕ, zero, suc, ◌+◌, ◌-◌, ◌*◌, ◌<◌, ◌≤◌, true, eqb, Option, Some, None, List, [], ◌∷◌, ◌++◌, length, drop, get_or, map, replicate, refl, sym, ap, subst, ◌∙◌, arith, slice_range, length-append, length-drop, append_assoc, add-one}
+use Rattle.std.proofs.Common.{◌≡◌, ℕ, zero, suc, ◌+◌, ◌-◌, ◌*◌, ◌<◌, ◌≤◌, true, eqb, Some, List, [], ◌∷◌, ◌++◌, length, drop, get_or, map, replicate, refl, sym, ap, subst, ◌∙◌, arith, slice_range, length-append, append_assoc, add-one}
 use Rattle.std.specs.Prelude.{slice_get, Bool}
 use Rattle.std.specs.List.{flat_map, range_with_len, list_all, AllByRecursion}
-use Rattle.std.proofs.lemmas.List.{append-nil, take_at, drop_at, length-take}
+use Rattle.std.proofs.lemmas.List.{append-nil, take_at, drop_at}
 use Rattle.std.proofs.lemmas.Bool.{and_parts, eqb-true}
 use Rattle.std.proofs.lemmas.List.Folds.{drop_split}
 use Rattle.std.proofs.lemmas.List.FromFn.{map-range_with_len_more, fill_by_all, length-map-range_with_len, get_or-map-range_with_len}

@@ -1,6 +1,6 @@
 -- Bytes with no fault are the spelling of what they say.
-use Rattle.std.proofs.Common.{◌≡◌, ℕ, zero, suc, ◌+◌, ◌*◌, ◌/◌, ◌%◌, ◌<◌, ◌≤◌, Bool, true, false, cond, eqb, Option, Some, None, Result, Err, List, [], ◌∷◌, ◌++◌, length, take, drop, get_or, map, replicate, refl, sym, ap, ap₂, ◌∙◌, arith, slice_range, take-add}
-use Rattle.std.specs.Prelude.{not, ◌||◌, ◌&&◌, nat_le, nat_lt, is_some, unwrap_or}
+use Rattle.std.proofs.Common.{◌≡◌, ℕ, ◌+◌, ◌*◌, ◌/◌, ◌%◌, ◌<◌, ◌≤◌, true, cond, eqb, Option, Some, None, List, [], ◌∷◌, ◌++◌, length, take, drop, get_or, map, replicate, refl, sym, ap, ap₂, ◌∙◌, arith, slice_range, take-add}
+use Rattle.std.specs.Prelude.{not, ◌||◌, nat_le, nat_lt, is_some, unwrap_or}
 use Rattle.std.specs.List.{flat_map, range_with_len}
 use Rattle.std.specs.Result.{result_err}
 use Rattle.std.specs.Option.{option_or}
@@ -19,12 +19,11 @@ use Rattle.component_package.specs.declared.part.Place.{Place}
 use Rattle.component_package.specs.declared.part.Place.TheVariants as places
 use Rattle.component_package.specs.declared.part.Header.{Header}
 use Rattle.component_package.specs.declared.part.Reloc.{Reloc}
-use Rattle.component_package.specs.declared.fault.PackageFault.{PackageFault}
 use Rattle.component_package.specs.Numbers.{u16_at}
 use Rattle.component_package.specs.Component.{export_bytes, reloc_bytes, header_bytes, spelling, number_of_place}
-use Rattle.component_package.specs.Reading.{header_of, exports_at, relocs_at, total_of, is_blank, has_magic, header_fault, place_of, length_of, is_above, check_export_of, export_in, export_of, raw_export, symbol_before, export_fault, exports_fault, has_place_byte, has_place, is_inside, is_aligned, is_behind, has_target, is_clear, reloc_with, reloc_in, reloc_of, raw_reloc, reloc_before, raw_field, reloc_fault, relocs_fault, package_fault, component_of}
+use Rattle.component_package.specs.Reading.{header_of, exports_at, relocs_at, total_of, is_blank, has_magic, header_fault, place_of, length_of, is_above, check_export_of, export_in, export_of, raw_export, symbol_before, export_fault, exports_fault, is_inside, is_aligned, is_behind, has_target, is_clear, reloc_with, reloc_in, reloc_of, raw_reloc, reloc_before, raw_field, reloc_fault, relocs_fault, package_fault, component_of}
 use Rattle.component_package.proofs.First.{none_or, no_fault, chosen, spared}
-use Rattle.component_package.proofs.Lists.{is_zero, all_zeros, cells, entries}
+use Rattle.component_package.proofs.Lists.{all_zeros, cells, entries}
 use Rattle.component_package.proofs.HeaderLemmas.{good_header, IsGoodHeader, parts_have_lengths}
 
 low_byte : (x y : ℕ) → x < 256 → (x + 256 * y) % 256 ≡ x

@@ -1,10 +1,8 @@
 -- The steps of reading, one by one.
-use Rattle.std.proofs.Common.{◌≡◌, ℕ, suc, ◌+◌, ◌-◌, ◌≤◌, ◌%◌, Bool, true, false, cond, Option, Some, None, Result, Ok, Err, List, [], ◌∷◌, ◌++◌, length, get_or, replicate, refl, sym, ap, subst, ◌∙◌, inl, inr, arith, slice_range, add-one}
+use Rattle.std.proofs.Common.{◌≡◌, ℕ, ◌+◌, ◌-◌, ◌≤◌, ◌%◌, Bool, true, false, cond, Option, Some, None, Result, Ok, Err, List, [], ◌∷◌, ◌++◌, length, get_or, replicate, refl, sym, ap, inl, inr, arith, add-one}
 use Rattle.std.specs.Prelude.{not, ◌&&◌, unwrap_or}
-use Rattle.std.specs.Option.{option_or}
 use Rattle.std.specs.Result.{result_err}
-use Rattle.std.proofs.lemmas.Bool.{cases_Bool, ltb-false, le-ltb, lt-ltb, cases_lt}
-use Rattle.std.proofs.lemmas.List.{get_or-take}
+use Rattle.std.proofs.lemmas.Bool.{cases_Bool}
 use Rattle.avr_reloc.specs.declared.kind.RelocType.{RelocType}
 use Rattle.avr_reloc.specs.declared.kind.RelocType.TheVariants.{Abs32}
 use Rattle.avr_reloc.specs.Kind.{kind_of}
@@ -16,8 +14,7 @@ use Rattle.component_package.specs.declared.part.Header.{Header}
 use Rattle.component_package.specs.declared.fault.PackageFault.{PackageFault}
 use Rattle.component_package.specs.declared.fault.PackageFault.TheVariants.{RelocPlace, RelocOrder, Target, FieldNotZero}
 use Rattle.component_package.specs.Reading.{header_of, header_fault, place_of, check_export_of, export_in, export_of, raw_export, symbol_before, export_fault, exports_fault, has_place_byte, is_inside, has_place, is_behind, has_target, is_clear, check_reloc_of, reloc_in, reloc_with, reloc_of, raw_reloc, reloc_before, raw_field, reloc_fault, relocs_fault, span_in, field_span_of, package_fault}
-use Rattle.component_package.specs.Laws.{spanned_field, fault_by_steps, export_step, reloc_step, StepsFindTheFault}
-use Rattle.component_package.proofs.First.{first_fault-same}
+use Rattle.component_package.specs.Laws.{spanned_field, reloc_step}
 
 -- ---- choices that came to a value
 
