@@ -46,11 +46,14 @@ reloc_step h b i = let raw = raw_reloc b i in result_err (check_reloc_of h (relo
 abbrev pub fault_by_steps : List ℕ → Option PackageFault
 fault_by_steps b =
     let h = header_of (take 32 b) in
-    option_or (header_fault (take 32 b) (length b)) (option_or (first_fault (export_step h b) h.exports) (first_fault (reloc_step h b) h.relocs))
+    option_or (header_fault (take 32 b) (length b))
+    (option_or (first_fault (export_step h b) h.exports) (first_fault (reloc_step h b) h.relocs))
 
 -- a package that is read piece by piece has the fault that it has as a whole, and what the steps accept is what the bytes say
 pub record StepsFindTheFault : Type 0 where
   pub fault : (b : List ℕ) → fault_by_steps b ≡ package_fault b
   pub header : (b : List ℕ) → header_of (take 32 b) ≡ header_of b
-  pub export : (h : Header) (before : Option ℕ) (i : ℕ) (raw : List ℕ) (e : Export) → check_export_of h before i raw ≡ Ok e → e ≡ export_of raw
-  pub reloc : (h : Header) (before : Option Reloc) (i : ℕ) (raw field : List ℕ) (r : Reloc) → check_reloc_of h before i raw field ≡ Ok r → r ≡ reloc_of raw
+  pub export : (h : Header) (before : Option ℕ) (i : ℕ) (raw : List ℕ) (e : Export)
+      → check_export_of h before i raw ≡ Ok e → e ≡ export_of raw
+  pub reloc : (h : Header) (before : Option Reloc) (i : ℕ) (raw field : List ℕ) (r : Reloc)
+      → check_reloc_of h before i raw field ≡ Ok r → r ≡ reloc_of raw
