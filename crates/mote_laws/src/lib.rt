@@ -1,0 +1,3 @@
+//! Laws over the definitions of sides, soundness and the mote machine.
+#![tactic(auto)]
+
