@@ -1,3 +1,5 @@
 pub mod Kept
 pub mod Steps
 pub mod Programs
+pub mod Rows
+pub mod Runs
