@@ -3,3 +3,4 @@ pub mod Steps
 pub mod Programs
 pub mod Rows
 pub mod Runs
+pub mod Slots

@@ -1,3 +1,4 @@
 pub mod Steps
 pub mod Programs
 pub mod Runs
+pub mod Slots
