@@ -4,3 +4,4 @@ pub mod Programs
 pub mod Rows
 pub mod Runs
 pub mod Slots
+pub mod Stored

@@ -2,3 +2,4 @@ pub mod Steps
 pub mod Programs
 pub mod Runs
 pub mod Slots
+pub mod Stored
