@@ -5,3 +5,4 @@ pub mod Rows
 pub mod Runs
 pub mod Slots
 pub mod Stored
+pub mod Formatted

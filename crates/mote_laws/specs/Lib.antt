@@ -3,3 +3,4 @@ pub mod Programs
 pub mod Runs
 pub mod Slots
 pub mod Stored
+pub mod Formatted
