@@ -4,3 +4,4 @@ pub mod Runs
 pub mod Slots
 pub mod Stored
 pub mod Formatted
+pub mod Sets

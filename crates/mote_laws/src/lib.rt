@@ -6,6 +6,10 @@
 ghost use Rattle.mote_laws.specs.Steps.{ClosingKeeps, WritingKeeps, SlotWritingKeeps, OpeningKeeps, CommitIsWhole, SelectingKeeps, FinishingKeeps};
 ghost use Rattle.mote_laws.specs.Programs.{EachPageIsInOnePart, JoinedPageIsPut};
 ghost use Rattle.mote_laws.specs.Runs.{RefusalsChangeNothing, MachineIsTotal, OnlyItsAnswerChanges, CommitsRise};
+ghost use Rattle.mote_laws.specs.Slots.{SlotIsFree, SlotsAreFound};
+ghost use Rattle.mote_laws.specs.Stored.{BytesAreOneRelease, PartsStandForOne};
+ghost use Rattle.mote_laws.specs.Formatted.{FormattedIsSound};
+ghost use Rattle.mote_laws.specs.Sets.{OtherSetsStay};
 
 /// Closing Img, Rel, Sym and Man, in this order, keeps a mote sound and what it chooses.
 pub fn closing_keeps()
@@ -70,4 +74,34 @@ pub fn only_its_answer_changes()
 /// The releases of a session's commits rise strictly from the one at entry.
 pub fn commits_rise()
     ensures { CommitsRise }
+{}
+
+/// A slot is free where fewer than 32 are taken.
+pub fn slot_is_free()
+    ensures { SlotIsFree }
+{}
+
+/// Each entry of a release over a stored one has a slot of its own: the held ones theirs, and the others one that the current release doesn't use.
+pub fn slots_are_found()
+    ensures { SlotsAreFound }
+{}
+
+/// The bytes of a manifest spell one release, and those of a side store one.
+pub fn bytes_are_one_release()
+    ensures { BytesAreOneRelease }
+{}
+
+/// Sound parts stand for exactly one mote of the machine, whose incoming release is above the current one.
+pub fn parts_stand_for_one()
+    ensures { PartsStandForOne }
+{}
+
+/// A formatted board is sound, and stands for the mote with the empty release.
+pub fn formatted_is_sound()
+    ensures { FormattedIsSound }
+{}
+
+/// A slot that a release doesn't use may become anything: its set stays. An entry that isn't held has such a slot.
+pub fn other_sets_stay()
+    ensures { OtherSetsStay }
 {}
