@@ -11,7 +11,7 @@ use Rattle.component_package.specs.declared.fault.PackageFault.{PackageFault}
 use Rattle.component_package.specs.declared.manifest.Entry.{Entry}
 use Rattle.component_package.specs.Component.{Component}
 use Rattle.component_package.specs.Reading.{first_fault, package_fault, number_of_fault, component_of, header_of}
-use Rattle.component_package.specs.Laws.{FaultlessBytesSpell}
+use Rattle.component_package.proofs.Laws.{faultless_bytes_spell}
 use Rattle.component_package.specs.Grammar.{IsComponent, Spells}
 use Rattle.component_package.specs.Manifest.{Release, Placed, StoredRelease, IsRelease, Stores}
 use Rattle.component_package.specs.Store.{SetFault, Missing, BadPackage, package_in, HoldsPackage, HasSet, components_of, is_same, is_missing, identity_fault, stored_fault, missing_at, bad_package_at, set_fault, held_slot, slots_for}
@@ -71,13 +71,13 @@ at_place P (y ∷ xs) (suc k) x all at = at_place P xs k x all.1 at
 -- ---- one entry
 
 -- a package of the entry's has no fault
-package_faultless : FaultlessBytesSpell → (store : List (List ℕ)) (p : Placed) → HoldsPackage store p → (is_missing store p ≡ false) × (stored_fault p.entry (package_in store p) ≡ None)
-package_faultless laws store p holds =
+package_faultless : (store : List (List ℕ)) (p : Placed) → HoldsPackage store p → (is_missing store p ≡ false) × (stored_fault p.entry (package_in store p) ≡ None)
+package_faultless store p holds =
     (not_from_true _ (subst (λ (d : List ℕ). is_same d p.entry.digest ≡ true) (sym holds.digest) (is_same_itself p.entry.digest)),
-     faultless (package_fault (package_in store p)) (laws.faultless (package_in store p) holds.component holds.spelled))
+     faultless (package_fault (package_in store p)) (faultless_bytes_spell.faultless (package_in store p) holds.component holds.spelled))
   where
     said : component_of (package_in store p) ≡ holds.component
-    said = laws.said (package_in store p) holds.component holds.spelled
+    said = faultless_bytes_spell.said (package_in store p) holds.component holds.spelled
     number : eqb (header_of (package_in store p)).component p.entry.component ≡ true
     number = eq-eqb _ _ (ap (λ (c : Component). c.component) said ∙ holds.number)
     version : eqb (header_of (package_in store p)).version p.entry.version ≡ true
@@ -87,11 +87,11 @@ package_faultless laws store p holds =
     faultless (Some x) none = absurd cc
 
 -- and what has no fault is one
-faultless_package : FaultlessBytesSpell → (store : List (List ℕ)) (p : Placed) → AreBytes (package_in store p) → is_missing store p ≡ false → stored_fault p.entry (package_in store p) ≡ None → HoldsPackage store p
-faultless_package laws store p bytes there whole = record {
+faultless_package : (store : List (List ℕ)) (p : Placed) → AreBytes (package_in store p) → is_missing store p ≡ false → stored_fault p.entry (package_in store p) ≡ None → HoldsPackage store p
+faultless_package store p bytes there whole = record {
   digest = same_lists_are _ _ (not-false _ there);
   component = component_of (package_in store p);
-  spelled = laws.spells (package_in store p) bytes (parts (package_fault (package_in store p)) whole).0;
+  spelled = faultless_bytes_spell.spells (package_in store p) bytes (parts (package_fault (package_in store p)) whole).0;
   number = eqb-true _ _ (and_parts _ _ identity).0;
   version = eqb-true _ _ (and_parts _ _ identity).1;
 }
@@ -107,20 +107,20 @@ faultless_package laws store p bytes there whole = record {
 
 -- ---- a set
 
-module _ (laws : FaultlessBytesSpell) (store : List (List ℕ)) (m : StoredRelease) where
+module _ (store : List (List ℕ)) (m : StoredRelease) where
   no_missing : HasSet store m → (k : ℕ) → missing_at store m k ≡ None
   no_missing has k = at (slice_get m.placed k) refl
     where
       at : (o : Option Placed) → slice_get m.placed k ≡ o → option_and_then (λ p. cond (is_missing store p) (Some (Missing k)) None) o ≡ None
       at None is = refl
-      at (Some p) is = ap (λ (b : Bool). cond b (Some (Missing k)) None) (package_faultless laws store p (at_place (HoldsPackage store) m.placed k p has is)).0
+      at (Some p) is = ap (λ (b : Bool). cond b (Some (Missing k)) None) (package_faultless store p (at_place (HoldsPackage store) m.placed k p has is)).0
 
   no_bad : HasSet store m → (k : ℕ) → bad_package_at store m k ≡ None
   no_bad has k = at (slice_get m.placed k) refl
     where
       at : (o : Option Placed) → slice_get m.placed k ≡ o → option_and_then (λ p. option_map (BadPackage k) (stored_fault p.entry (package_in store p))) o ≡ None
       at None is = refl
-      at (Some p) is = ap (option_map (BadPackage k)) (package_faultless laws store p (at_place (HoldsPackage store) m.placed k p has is)).1
+      at (Some p) is = ap (option_map (BadPackage k)) (package_faultless store p (at_place (HoldsPackage store) m.placed k p has is)).1
 
   set_faultless : HasSet store m → set_fault store m ≡ None
   set_faultless has = rw (none_anywhere (missing_at store m) (length m.placed) (no_missing has)) (none_anywhere (bad_package_at store m) (length m.placed) (no_bad has))
@@ -131,7 +131,7 @@ module _ (laws : FaultlessBytesSpell) (store : List (List ℕ)) (m : StoredRelea
       faults : (first_fault (missing_at store m) (length m.placed) ≡ None) × (first_fault (bad_package_at store m) (length m.placed) ≡ None)
       faults = neither (first_fault (missing_at store m) (length m.placed)) (first_fault (bad_package_at store m) (length m.placed)) none
       one : (k : ℕ) (p : Placed) → k < length m.placed → slice_get m.placed k ≡ Some p → HoldsPackage store p
-      one k p within is = faultless_package laws store p front there whole
+      one k p within is = faultless_package store p front there whole
         where
           front : AreBytes (package_in store p)
           front i = ⊎_elim (λ low. rw (get_or-take p.entry.length (get_or store p.slot []) i 0 low) (bytes p.slot i))
@@ -148,12 +148,12 @@ module _ (laws : FaultlessBytesSpell) (store : List (List ℕ)) (m : StoredRelea
           whole = free (stored_fault p.entry (package_in store p)) (sym (ap (option_and_then (λ p. option_map (BadPackage k) (stored_fault p.entry (package_in store p)))) is) ∙ none_before (bad_package_at store m) (length m.placed) k faults.1 within)
 
 -- the components of a set are the grammar's
-are_components : FaultlessBytesSpell → (store : List (List ℕ)) (ps : List Placed) → AllByRecursion (HoldsPackage store) ps → AllByRecursion IsComponent (map (λ p. component_of (package_in store p)) ps)
-are_components laws store [] all = tt
-are_components laws store (p ∷ ps) all = (subst IsComponent (sym (laws.said (package_in store p) all.0.component all.0.spelled)) all.0.spelled.component, are_components laws store ps all.1)
+are_components : (store : List (List ℕ)) (ps : List Placed) → AllByRecursion (HoldsPackage store) ps → AllByRecursion IsComponent (map (λ p. component_of (package_in store p)) ps)
+are_components store [] all = tt
+are_components store (p ∷ ps) all = (subst IsComponent (sym (faultless_bytes_spell.said (package_in store p) all.0.component all.0.spelled)) all.0.spelled.component, are_components store ps all.1)
 
-pub sets_are_faultless_by : FaultlessBytesSpell → SetsAreFaultless
-sets_are_faultless_by laws = record { faultless = set_faultless laws; whole = faultless_set laws; components = λ store m has. are_components laws store m.placed has }
+pub sets_are_faultless : SetsAreFaultless
+sets_are_faultless = record { faultless = set_faultless; whole = faultless_set; components = λ store m has. are_components store m.placed has }
 
 -- ---- other sets
 

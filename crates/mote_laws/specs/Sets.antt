@@ -2,7 +2,6 @@
 use Rattle.std.specs.Prelude.{◌≡◌, ℕ, List, [], slice_get, slice_index_or, slice_set, Some, None}
 use Rattle.std.specs.List.{AllByRecursion}
 use Rattle.avr_reloc.specs.Field.{AreBytes}
-use Rattle.component_package.specs.Laws.{FaultlessBytesSpell}
 use Rattle.component_package.specs.Grammar.{IsComponent}
 use Rattle.component_package.specs.Manifest.{Placed, StoredRelease, Stores}
 use Rattle.component_package.specs.Store.{HasSet, components_of, set_fault, held_slot}

@@ -9,7 +9,7 @@ ghost use Rattle.mote_laws.specs.Runs.{RefusalsChangeNothing, MachineIsTotal, On
 ghost use Rattle.mote_laws.specs.Slots.{SlotIsFree, SlotsAreFound};
 ghost use Rattle.mote_laws.specs.Stored.{BytesAreOneRelease, PartsStandForOne};
 ghost use Rattle.mote_laws.specs.Formatted.{FormattedIsSound};
-ghost use Rattle.mote_laws.specs.Sets.{OtherSetsStay};
+ghost use Rattle.mote_laws.specs.Sets.{SetsAreFaultless, OtherSetsStay};
 
 /// Closing Img, Rel, Sym and Man, in this order, keeps a mote sound and what it chooses.
 pub fn closing_keeps()
@@ -99,6 +99,11 @@ pub fn parts_stand_for_one()
 /// A formatted board is sound, and stands for the mote with the empty release.
 pub fn formatted_is_sound()
     ensures { FormattedIsSound }
+{}
+
+/// Slots hold a release's set exactly where nothing is missing and no package is bad, and its components are then the grammar's.
+pub fn sets_are_faultless()
+    ensures { SetsAreFaultless }
 {}
 
 /// A slot that a release doesn't use may become anything: its set stays. An entry that isn't held has such a slot.
