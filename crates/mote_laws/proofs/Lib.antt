@@ -7,3 +7,4 @@ pub mod Slots
 pub mod Stored
 pub mod Formatted
 pub mod Sets
+pub mod Stands

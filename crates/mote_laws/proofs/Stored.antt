@@ -106,14 +106,14 @@ next_release : (current side : List ℕ) → IsNext current side → (m n : Stor
 unfolding IsNext
 next_release current side (m, r, stores, release, above, next) = (m, slots_for m r, stores, next, above)
 
-man_open : (p : Parts) → has_incoming p ≡ true → (is_pending p ≡ false) × (p.gates man ≡ true)
+pub man_open : (p : Parts) → has_incoming p ≡ true → (is_pending p ≡ false) × (p.gates man ≡ true)
 man_open p has = at (is_pending p) refl has
   where
     at : (b : Bool) → is_pending p ≡ b → cond b false (p.gates man) ≡ true → (is_pending p ≡ false) × (p.gates man ≡ true)
     at true is h = absurd cc
     at false is h = (is, h)
 
-comes_next : (p : Parts) → IsSound p → has_incoming p ≡ true → IsNext (chosen_side p) (other_side p)
+pub comes_next : (p : Parts) → IsSound p → has_incoming p ≡ true → IsNext (chosen_side p) (other_side p)
 comes_next p sound has = let gates = man_open p has in (sound.rest gates.0).man_open gates.1
 
 stands_for_incoming : (p : Parts) → IsSound p → (b : Bool) → has_incoming p ≡ b → (o : Option StoredRelease) × StandsForIncoming p o

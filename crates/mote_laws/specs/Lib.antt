@@ -5,3 +5,4 @@ pub mod Slots
 pub mod Stored
 pub mod Formatted
 pub mod Sets
+pub mod Stands
