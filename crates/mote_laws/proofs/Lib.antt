@@ -8,3 +8,4 @@ pub mod Stored
 pub mod Formatted
 pub mod Sets
 pub mod Stands
+mod WrongOrders
