@@ -1,10 +1,11 @@
 -- Bytes of pages that stand one after another.
 use Rattle.std.proofs.Common.{◌≡◌, ℕ, zero, suc, ◌+◌, ◌*◌, ◌-◌, ◌/◌, ◌%◌, ◌<◌, ◌≤◌, List, [], ◌∷◌, ◌++◌, All, length, take, drop, slice_index_or, min, refl, sym, ap, ◌∙◌, arith, subst}
 use Rattle.std.specs.List.{concat}
-use Rattle.std.proofs.lemmas.List.{take-append-le, drop-append-le, length-drop, drop-drop, take_at, take_all, drop_all, append-nil, get_or-drop, length-append, length-take-le}
-use Rattle.std.proofs.lemmas.List.Elements.{All-head, All-tail, All-drop}
+use Rattle.std.proofs.lemmas.List.{take-append-le, drop-append-le, length-drop, drop-drop, take_at, take_all, drop_all, append-nil, get_or-drop, length-append, length-take-le, take-append-drop}
+use Rattle.std.proofs.lemmas.List.Folds.{concat-append}
+use Rattle.std.proofs.lemmas.List.Elements.{All-head, All-tail, All-take, All-drop}
 use Rattle.std.proofs.Math.Seq.{take-append-add, drop-append_seam, drop-append-add}
-use Rattle.flash_pages.specs.State.{State, IsState, Ext, page_at}
+use Rattle.flash_pages.specs.State.{State, IsState, Ext, page_at, area}
 use Rattle.external_flash.specs.Areas.{bytes_from}
 
 -- page j of pages that are joined
@@ -144,3 +145,26 @@ module _ (s : State) (first from : ℕ) (is : IsState s) where
         ∙ ap (λ (l : List ℕ). take h (drop (from % 256) (page_at s (Ext (first + from / 256)))) ++ l) second
         ∙ reads_two h rest (omega arith) (omega (arith, both_len)) (omega arith) (omega (arith, both_len))
         ∙ ap (λ (n : ℕ). take n (drop from (bytes_from first s))) whole
+
+-- the length of lists of k bytes that are joined
+length-joined : (k : ℕ) (ps : List (List ℕ)) → All (λ p. length p ≡ k) ps → length (concat ps) ≡ k * length ps
+length-joined k [] all = omega arith
+length-joined k (p ∷ ps) all =
+    let len : length p ≡ k = All-head (λ (q : List ℕ). length q ≡ k) p ps all in
+    let rest : length (concat ps) ≡ k * length ps = length-joined k ps (All-tail (λ (q : List ℕ). length q ≡ k) p ps all) in
+    let more : k * suc (length ps) ≡ k + k * length ps = omega arith in
+    length-append p (concat ps) ∙ omega (arith, len, rest, more)
+
+-- bytes of a run that end within its first pages are bytes of those pages alone
+pub bytes_from-area : (first count from n : ℕ) (s : State) → IsState s → first + count ≤ 2048 → from + n ≤ 256 * count
+    → take n (drop from (bytes_from first s)) ≡ take n (drop from (concat (area first count s)))
+bytes_from-area first count from n s is fits within =
+    let ps : List (List ℕ) = drop first s.ext in
+    let all : All (λ p. length p ≡ 256) ps = pages_whole s first is in
+    let size : length ps ≡ 2048 - first = length-drop first s.ext ∙ omega (arith, is.ext) in
+    let len : length (concat (take count ps)) ≡ 256 * count = length-joined 256 (take count ps) (All-take (λ (p : List ℕ). length p ≡ 256) count ps all) ∙ ap (λ (k : ℕ). 256 * k) (length-take-le count ps (omega (arith, size))) in
+    let whole : concat ps ≡ concat (take count ps) ++ concat (drop count ps) = ap concat (sym (take-append-drop count ps)) ∙ concat-append (take count ps) (drop count ps) in
+    let left : length (drop from (concat (take count ps))) ≡ 256 * count - from = length-drop from (concat (take count ps)) ∙ omega (arith, len) in
+    ap (λ (l : List ℕ). take n (drop from l)) whole
+    ∙ ap (λ (l : List ℕ). take n l) (drop-append-le from (concat (take count ps)) (concat (drop count ps)) (omega (arith, len)))
+    ∙ take-append-le n (drop from (concat (take count ps))) (concat (drop count ps)) (omega (arith, left))
