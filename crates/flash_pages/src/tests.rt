@@ -1,8 +1,11 @@
 //! What no clause says: which calls a plan lets fail, what a stop leaves, what fits the rooms, and what a board does with real files.
 ghost use Rattle.std.specs.Prelude.{◌≡◌, ◌<◌};
 
-use crate::{Board, BoardPlan, Failed, MemoryBoard};
+use crate::{Board, BoardPlan, Failed, FileBoard, MemoryBoard};
 use std::alloc::Global;
+use std::fs;
+use std::fs::OpenOptions;
+use std::os::unix::fs::PermissionsExt;
 use std::test::Fail;
 
 fn plan(alloc: Global, stop_at: u32, spoil: [u8; 256], chunk: u16) -> BoardPlan
@@ -199,5 +202,79 @@ fn a_line_gives_and_takes_pieces(rt: HostRuntime) -> Result<(), Fail> {
         }
         assert_eq!(rt; board.sent_bytes(), input.as_slice());
     }
+    Ok(())
+}
+
+const FOLDER: &str = "flash_pages_test";
+
+const PROG: &str = "flash_pages_test/prog";
+
+const EXT: &str = "flash_pages_test/ext";
+
+#[test]
+fn files_hold_pages(rt: HostRuntime) -> Result<(), Fail> {
+    let _ = fs::remove_dir_all(&rt, FOLDER);
+    let mut page = [0; 256];
+    let mut board = FileBoard::new(&rt, PROG, EXT);
+    assert!(rt; board.prog_read(0, &mut page).is_err());
+    fs::create_dir(&rt, FOLDER)?;
+    assert!(rt; board.prog_read(0, &mut page).is_err());
+    assert!(rt; fs::metadata(&rt, EXT).is_ok());
+    assert!(rt; board.ext_program(2, &[7; 256]).is_ok());
+    assert!(rt; board.ext_program(0, &[9; 256]).is_ok());
+    assert!(rt; board.ext_read(2, &mut page).is_ok());
+    assert_eq!(rt; page, [7; 256]);
+    assert!(rt; board.ext_read(1, &mut page).is_ok());
+    assert_eq!(rt; page, [0; 256]);
+    assert!(rt; board.ext_read(3, &mut page).is_err());
+    assert!(rt; board.prog_program(479, &[8; 256]).is_ok());
+    assert_eq!(rt; fs::metadata(&rt, EXT)?.len(), 768);
+    assert_eq!(rt; fs::metadata(&rt, PROG)?.len(), 122_880);
+    fs::remove_dir_all(&rt, FOLDER)?;
+    Ok(())
+}
+
+// Whether a read and a program of page 0 of program flash answer Ok on a board over these files.
+fn tried(rt: &HostRuntime, prog: &str, ext: &str) -> (bool, bool) {
+    let mut board = FileBoard::new(rt, prog, ext);
+    let mut page = [0; 256];
+    let reads = board.prog_read(0, &mut page).is_ok();
+    let programs = board.prog_program(0, &page).is_ok();
+    (reads, programs)
+}
+
+const OTHER_FOLDER: &str = "flash_pages_other";
+
+const OTHER: &str = "flash_pages_other/ext";
+
+const SHORT: &str = "flash_pages_other/short";
+
+const READ_ONLY: &str = "flash_pages_other/read_only";
+
+#[test]
+fn files_that_fail_are_faults(rt: HostRuntime) -> Result<(), Fail> {
+    let _ = fs::remove_dir_all(&rt, OTHER_FOLDER);
+    fs::create_dir(&rt, OTHER_FOLDER)?;
+    fs::write(&rt, SHORT, [1; 255].as_slice())?;
+    fs::write(&rt, READ_ONLY, [1; 256].as_slice())?;
+    fs::set_permissions(&rt, READ_ONLY, fs::Permissions::from_mode(0o444))?;
+    // The superuser may write a file that is read-only.
+    let may_write = OpenOptions::new()
+        .read(true)
+        .write(true)
+        .open(&rt, READ_ONLY)
+        .is_ok();
+    for (prog, ext, want) in [
+        (SHORT, OTHER, (false, true)),
+        (READ_ONLY, OTHER, (may_write, may_write)),
+        (OTHER_FOLDER, OTHER, (false, false)),
+        (SHORT, OTHER_FOLDER, (false, false)),
+        ("flash_pages_other/missing/prog", OTHER, (false, false)),
+        ("/dev/null", OTHER, (false, false)),
+        ("/dev/full", OTHER, (true, false)),
+    ] {
+        assert_eq!(rt; tried(&rt, prog, ext), want, "{prog} {ext}");
+    }
+    fs::remove_dir_all(&rt, OTHER_FOLDER)?;
     Ok(())
 }
