@@ -1,3 +1,10 @@
 pub mod Unique
 pub mod Examples
 mod MachineExamples
+pub mod First
+pub mod Lists
+pub mod HeaderLemmas
+pub mod Steps
+pub mod Spelled
+pub mod Sound
+pub mod ReadAgain

@@ -7,18 +7,24 @@ ghost use Rattle.component_package.specs.Laws.{FramesAreOne};
 
 mod answer;
 pub mod areas;
+mod check;
 mod fault;
 mod header;
 mod list;
 mod manifest;
 mod part;
+mod read;
+mod write;
 
 pub use answer::Answer;
+pub use check::{check_export, check_reloc, field_span};
 pub use fault::PackageFault;
 pub use header::read_header;
-pub use list::{Bytes, NoMemory, Text};
+pub use list::{Bytes, Exports, NoMemory, Relocs, Text};
 pub use manifest::{Entry, Manifest, ManifestFault, SlotManifest};
-pub use part::{Export, Header, Place, Reloc, Site};
+pub use part::{Export, Header, Package, Place, Reloc, Site};
+pub use read::{PackageView, read_package};
+pub use write::write_package;
 
 /// The bytes of a line are one list of frames and one rest. It does nothing: its contract is the law.
 pub fn frames_are_one()
