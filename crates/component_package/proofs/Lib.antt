@@ -8,3 +8,4 @@ pub mod Steps
 pub mod Spelled
 pub mod Sound
 pub mod ReadAgain
+pub mod ManifestLemmas
