@@ -6,6 +6,7 @@ pub mod Lists
 pub mod HeaderLemmas
 pub mod Steps
 pub mod Spelled
-pub mod Sound
+pub mod InGrammar
 pub mod ReadAgain
 pub mod ManifestLemmas
+pub mod Laws

@@ -1,12 +1,12 @@
 -- What is spelled is read again.
-use Rattle.std.proofs.Common.{◌≡◌, ◌⊎◌, ℕ, zero, suc, ◌+◌, ◌-◌, ◌*◌, ◌/◌, ◌%◌, ◌<◌, ◌≤◌, Bool, true, false, cond, eqb, Option, Some, None, Ok, List, [], ◌∷◌, ◌++◌, length, get_or, replicate, refl, sym, ap, subst, ◌∙◌, inl, inr, arith, slice_range, length-append, append_assoc}
+use Rattle.std.proofs.Common.{◌≡◌, ◌⊎◌, ℕ, zero, suc, ◌+◌, ◌-◌, ◌*◌, ◌/◌, ◌%◌, ◌<◌, ◌≤◌, Bool, true, false, cond, eqb, Option, Some, None, Ok, Err, List, [], ◌∷◌, ◌++◌, length, get_or, replicate, refl, sym, ap, subst, ◌∙◌, inl, inr, arith, slice_range, length-append, append_assoc}
 use Rattle.std.specs.Prelude.{slice_get, not, ◌||◌, ◌&&◌, nat_le, nat_lt, bit_and, IsTrue, FitsSigned}
 use Rattle.std.specs.List.{flat_map, list_all}
 use Rattle.std.specs.Result.{result_err}
 use Rattle.std.specs.Int.{w16, cast_signed, cast_unsigned}
 use Rattle.std.proofs.lemmas.Int.{to_z-of_z}
 use Rattle.std.proofs.lemmas.Nat.{and_le_l}
-use Rattle.std.proofs.lemmas.Bool.{le-leb, le-ltb, lt-ltb, eqb_refl}
+use Rattle.std.proofs.lemmas.Bool.{le-leb, le-ltb, lt-ltb, eq-eqb, and_parts}
 use Rattle.std.proofs.lemmas.List.{append-nil, take_at, drop_at}
 use Rattle.std.proofs.lemmas.Option.{slice_get-get_or, slice_get_within}
 use Rattle.avr_reloc.specs.declared.kind.RelocType.{RelocType}
@@ -19,13 +19,14 @@ use Rattle.component_package.specs.declared.part.Header.{Header}
 use Rattle.component_package.specs.declared.part.Place.{Place}
 use Rattle.component_package.specs.declared.part.Place.TheVariants as places
 use Rattle.component_package.specs.declared.fault.PackageFault.{PackageFault}
+use Rattle.component_package.specs.declared.fault.PackageFault.TheVariants.{RelocPlace, RelocOrder, Target, FieldNotZero}
 use Rattle.component_package.specs.Numbers.{u16_at}
 use Rattle.component_package.specs.Component.{Component, export_bytes, reloc_bytes, header_bytes, spelling, number_of_place}
-use Rattle.component_package.specs.Reading.{header_of, header_of_component, exports_at, relocs_at, total_of, header_fault, has_magic, is_blank, is_even, has_even_lengths, has_its_length, export_of, raw_export, symbol_before, export_fault, exports_fault, check_export_of, is_above, length_of, place_of, reloc_width, reloc_end, has_place_byte, is_inside, is_aligned, is_behind, has_target, is_clear, reloc_with, check_reloc_of, reloc_of, raw_reloc, reloc_before, field_at, raw_field, reloc_fault, relocs_fault, package_fault, list_of, component_of}
+use Rattle.component_package.specs.Reading.{header_of, header_of_component, exports_at, relocs_at, total_of, header_fault, has_magic, is_blank, is_even, has_even_lengths, has_its_length, export_of, raw_export, first_fault, symbol_before, export_fault, exports_fault, check_export_of, is_above, length_of, place_of, reloc_width, reloc_end, has_place_byte, has_place, is_inside, is_aligned, is_behind, has_target, is_clear, reloc_with, reloc_in, check_reloc_of, reloc_of, raw_reloc, reloc_before, field_at, raw_field, reloc_fault, relocs_fault, package_fault, list_of, component_of}
 use Rattle.component_package.specs.Grammar.{IsExport, ExportsRise, part_of_reloc, IsReloc, position_in, RelocsRise, IsComponent, Spells}
 use Rattle.component_package.proofs.First.{none_first}
 use Rattle.component_package.proofs.Lists.{entry_in, length-entries, list_of_entries, all_at, Rises, rises_next, rises_above}
-use Rattle.component_package.proofs.Sound.{is_zero, part_slice, length_of_part, widths}
+use Rattle.component_package.proofs.InGrammar.{is_zero, part_slice, length_of_part, widths}
 use Rattle.component_package.proofs.Steps.{faultless_parts}
 
 -- ---- the header
@@ -56,7 +57,7 @@ even_passes : (a b c : ℕ) → a % 2 ≡ 0 → b % 2 ≡ 0 → c % 2 ≡ 0 → 
 even_passes a b c p q r = rw (p, q, r) refl
 
 length_passes : (n m : ℕ) → n ≡ m → n ≤ 9984 → (eqb n m && nat_le n 9984) ≡ true
-length_passes n m same small = rw (← same, eqb_refl n, le-leb n 9984 small) refl
+length_passes n m same small = rw (eq-eqb n m same, le-leb n 9984 small) refl
 
 -- nothing is wrong with the header of a spelling
 header_sound : (c : Component) → IsComponent c → header_fault (spelling c) (length (spelling c)) ≡ None
@@ -184,3 +185,160 @@ reloc_again r fits =
 
 reloc_said_again : (r : Reloc) → FitsSigned w16 r.addend → reloc_of (reloc_bytes r) ≡ r
 reloc_said_again r fits = rw (kind_of-number r.kind) (reloc_again r fits)
+
+-- positions that rise, as a list that rises
+positions_rise : (c : Component) (low : ℕ) (rs : List Reloc) → RelocsRise c low rs → Rises (position_in c) (λ r. position_in c r + reloc_width r) low rs
+positions_rise c low [] rise = tt
+positions_rise c low (r ∷ rs) rise = (rise.0, positions_rise c (position_in c r + reloc_width r) rs rise.1)
+
+-- a field in its part that begins behind another comes behind it, by numbers: p and q say which of the two stand in data
+behind_again : (p q : Bool) (code init a w b v : ℕ) → a + w ≤ cond p init code → b + v ≤ cond q init code → 1 ≤ v → cond p code 0 + a + w ≤ cond q code 0 + b
+    → cond p (q && nat_le (a + w) b) (q || nat_le (a + w) b) ≡ true
+behind_again true true code init a w b v former inside some le = le-leb (a + w) b (omega arith)
+behind_again true false code init a w b v former inside some le = absurd (omega arith)
+behind_again false true code init a w b v former inside some le = refl
+behind_again false false code init a w b v former inside some le = le-leb (a + w) b (omega arith)
+
+-- a field is as far inside as the grammar says
+end_in_part : (c : Component) (r : Reloc) → IsReloc c r → reloc_end r ≤ cond r.in_init (length c.init) (length c.code)
+end_in_part c r is = rw (← length_of_part c r) is.inside
+
+or_true : (x : Bool) → (x || true) ≡ true
+or_true true = refl
+or_true false = refl
+
+aligned_again : (x : Bool) (n : ℕ) → (IsTrue x → n % 2 ≡ 0) → (not x || eqb (n % 2) 0) ≡ true
+aligned_again true n even = rw (even refl) refl
+aligned_again false n even = refl
+
+target_again : (t : ℕ) (weak : Bool) → (t ≤ 10) ⊎ (16 ≤ t) → (IsTrue weak → 16 ≤ t) → (nat_le 16 t || (nat_le t 10 && not weak)) ≡ true
+target_again t weak (inr high) w = rw (le-leb 16 t high) refl
+target_again t true (inl low) w = rw (le-leb 16 t (w refl)) refl
+target_again t false (inl low) w = rw (le-leb t 10 low) (or_true (nat_le 16 t))
+
+-- ---- value bits
+
+replicate_zero : (n : ℕ) → list_all is_zero (replicate n 0) ≡ true
+replicate_zero zero = refl
+replicate_zero (suc n) = replicate_zero n
+
+-- zeros are clear
+zeros_clear : (n : ℕ) (mask : List ℕ) → list_all is_zero (masked (replicate n 0) mask) ≡ true
+zeros_clear zero mask = refl
+zeros_clear (suc n) [] = refl
+zeros_clear (suc n) (m ∷ mask) =
+    let none : bit_and 0 m ≡ 0 = omega (arith, and_le_l 0 m) in
+    rw none (zeros_clear n mask)
+
+-- and so are clear bytes with zeros behind
+clear_again : (q : List ℕ) (n : ℕ) (mask : List ℕ) → list_all is_zero (masked q mask) ≡ true → list_all is_zero (masked (q ++ replicate n 0) mask) ≡ true
+clear_again [] n mask e = zeros_clear n mask
+clear_again (x ∷ q) n [] e = refl
+clear_again (x ∷ q) n (m ∷ mask) e =
+    let both = and_parts (is_zero (bit_and x m)) (list_all is_zero (masked q mask)) e in
+    rw both.0 (clear_again q n mask both.1)
+
+-- the bytes of a field in the package are those in its part
+field_again : (c : Component) (r : Reloc) → IsReloc c r → raw_field (spelling c) r ≡ slice_range (part_of_reloc c r) r.offset (reloc_end r) ++ replicate (4 - reloc_width r) 0
+field_again c r is =
+    let s = spelling c in
+    let w = reloc_width r in
+    let there = part_slice r.in_init s (length c.code) (length c.init) r.offset w (omega (arith, length-spelling c)) (end_in_part c r is) in
+    let parts = ap (λ (x : List ℕ). cond r.in_init x (slice_range s 32 (32 + length c.code))) (init_again c) ∙ ap (λ (x : List ℕ). cond r.in_init c.init x) (code_again c) in
+    ap (λ (h : Header). let at = field_at h r in slice_range s at (at + w) ++ replicate (4 - w) 0) (header_again c)
+    ∙ ap (λ (x : List ℕ). x ++ replicate (4 - w) 0) (sym there ∙ ap (λ (x : List ℕ). slice_range x r.offset (r.offset + w)) parts)
+
+-- ---- nothing is wrong with a relocation
+
+-- a relocation comes behind the one before
+reloc_behind : (c : Component) → IsComponent c → (i : ℕ) (r : Reloc) → slice_get c.relocs i ≡ Some r → is_behind (reloc_before (spelling c) i) r ≡ true
+reloc_behind c w zero r here = refl
+reloc_behind c w (suc i) r here =
+    let within = slice_get_within c.relocs (suc i) r here in
+    let former = get_or c.relocs i r in
+    let there : slice_get c.relocs i ≡ Some former = slice_get-get_or c.relocs i r (omega (arith, within)) in
+    let f = all_at (IsReloc c) c.relocs i former w.relocs there in
+    let is = all_at (IsReloc c) c.relocs (suc i) r w.relocs here in
+    let rises = rises_next (position_in c) (λ (x : Reloc). position_in c x + reloc_width x) 0 c.relocs i former r (positions_rise c 0 c.relocs w.reloc_order) there here in
+    let said : reloc_of (raw_reloc (spelling c) i) ≡ former = ap reloc_of (raw_reloc_again c i former there) ∙ reloc_said_again former f.addend in
+    ap (λ (x : Reloc). is_behind (Some x) r) said
+    ∙ behind_again former.in_init r.in_init (length c.code) (length c.init) former.offset (reloc_width former) r.offset (reloc_width r)
+    (end_in_part c former f) (end_in_part c r is) (widths (shape_of r.kind)).some rises
+
+-- checks that each pass, on a relocation that is what the bytes say
+passes : (h : Header) (before : Option Reloc) (i : ℕ) (raw field : List ℕ) (kind : RelocType) (r : Reloc) → reloc_with raw kind ≡ r → has_place_byte raw ≡ true → is_inside h r ≡ true → is_aligned r ≡ true
+    → is_behind before r ≡ true → has_target r ≡ true → is_clear kind field ≡ true → reloc_in h before i raw field (Some kind) ≡ Ok r
+passes h before i raw field kind r said byte inside aligned behind target clear =
+    ap (λ (x : Reloc). cond (not (has_place h raw x)) (Err (RelocPlace i)) (cond (not (is_behind before x)) (Err (RelocOrder i))
+    (cond (not (has_target x)) (Err (Target i)) (cond (not (is_clear kind field)) (Err (FieldNotZero i)) (Ok x))))) said
+    ∙ rw (byte, inside, aligned, behind, target, clear) refl
+
+-- the checks pass a relocation that the grammar allows
+check_reloc_again : (c : Component) (before : Option Reloc) (i : ℕ) (r : Reloc) (field : List ℕ) → IsReloc c r → is_behind before r ≡ true → is_clear r.kind field ≡ true
+    → check_reloc_of (header_of_component c) before i (reloc_bytes r) field ≡ Ok r
+check_reloc_again c before i r field is behind clear =
+    let said = reloc_again r is.addend in
+    let byte = (part_again r.in_init r.weak).below in
+    let inside = le-leb (reloc_end r) (cond r.in_init (length c.init) (length c.code)) (end_in_part c r is) in
+    let aligned = aligned_again (is_instruction (shape_of r.kind)) r.offset is.aligned in
+    let target = target_again r.target r.weak is.target is.weak in
+    rw (kind_of-number r.kind) (passes (header_of_component c) before i (reloc_bytes r) field r.kind r said byte inside aligned behind target clear)
+
+-- nothing is wrong with relocation i
+reloc_faultless : (c : Component) → IsComponent c → (i : ℕ) (r : Reloc) → slice_get c.relocs i ≡ Some r → reloc_fault (spelling c) i ≡ None
+reloc_faultless c w i r here =
+    let s = spelling c in
+    let is = all_at (IsReloc c) c.relocs i r w.relocs here in
+    let there = raw_reloc_again c i r here in
+    let said = reloc_said_again r is.addend in
+    let clear : is_clear r.kind (raw_field s r) ≡ true =
+    ap (is_clear r.kind) (field_again c r is)
+    ∙ clear_again (slice_range (part_of_reloc c r) r.offset (reloc_end r)) (4 - reloc_width r) (mask_of (shape_of r.kind)) (ap (list_all is_zero) is.clear ∙ replicate_zero (reloc_width r)) in
+    ap (λ (h : Header). result_err (check_reloc_of h (reloc_before s i) i (raw_reloc s i) (raw_field s (reloc_of (raw_reloc s i))))) (header_again c)
+    ∙ ap (λ (raw : List ℕ). result_err (check_reloc_of (header_of_component c) (reloc_before s i) i raw (raw_field s (reloc_of raw)))) there
+    ∙ ap (λ (x : Reloc). result_err (check_reloc_of (header_of_component c) (reloc_before s i) i (reloc_bytes r) (raw_field s x))) said
+    ∙ ap result_err (check_reloc_again c (reloc_before s i) i r (raw_field s r) is (reloc_behind c w i r here) clear)
+
+-- ---- the whole
+
+-- what holds of each element holds at each index
+no_fault_at : {X F : Type 0} {o : Option F} (xs : List X) (i : ℕ) → i < length xs → ((x : X) → slice_get xs i ≡ Some x → o ≡ None) → o ≡ None
+no_fault_at [] i lt each = absurd (omega arith)
+no_fault_at (y ∷ ys) i lt each = each (get_or (y ∷ ys) i y) (slice_get-get_or (y ∷ ys) i y lt)
+
+-- a package of a component has no fault
+pub spelling_faultless : (c : Component) → IsComponent c → package_fault (spelling c) ≡ None
+spelling_faultless c w =
+    let s = spelling c in
+    let exports = none_first (export_fault s) (length c.exports)
+    (λ i lt. no_fault_at c.exports i lt (λ x here. export_faultless c w i x here)) in
+    let relocs = none_first (reloc_fault s) (length c.relocs)
+    (λ i lt. no_fault_at c.relocs i lt (λ x here. reloc_faultless c w i x here)) in
+    faultless_parts s (header_sound c w)
+    (ap (λ (h : Header). first_fault (export_fault s) h.exports) (header_again c) ∙ exports)
+    (ap (λ (h : Header). first_fault (reloc_fault s) h.relocs) (header_again c) ∙ relocs)
+
+-- a component as its bytes say it, by the numbers of a header
+abbrev component_by : List ℕ → Header → Component
+component_by b h = record {
+  component = h.component;
+  version = h.version;
+  code = slice_range b 32 (32 + h.code);
+  init = slice_range b (32 + h.code) (32 + h.code + h.init);
+  bss = h.bss;
+  exports = list_of (λ i. export_of (raw_export b i)) h.exports;
+  relocs = list_of (λ i. reloc_of (raw_reloc b i)) h.relocs;
+}
+
+-- a package of a component says it
+pub spelling_said : (c : Component) → IsComponent c → component_of (spelling c) ≡ c
+spelling_said c w =
+    let s = spelling c in
+    let exports = list_of_entries (λ i. export_of (raw_export s i)) c.exports (λ i e here. ap export_of (raw_export_again c i e here) ∙ export_again e) in
+    let relocs = list_of_entries (λ i. reloc_of (raw_reloc s i)) c.relocs
+    (λ i r here. ap reloc_of (raw_reloc_again c i r here) ∙ reloc_said_again r (all_at (IsReloc c) c.relocs i r w.relocs here).addend) in
+    ap (component_by s) (header_again c)
+    ∙ ap (λ (x : List ℕ). record (component_by s (header_of_component c)) { code = x }) (code_again c)
+    ∙ ap (λ (x : List ℕ). record c { init = x; exports = list_of (λ i. export_of (raw_export s i)) (length c.exports); relocs = list_of (λ i. reloc_of (raw_reloc s i)) (length c.relocs) }) (init_again c)
+    ∙ ap (λ (x : List Export). record c { exports = x; relocs = list_of (λ i. reloc_of (raw_reloc s i)) (length c.relocs) }) exports
+    ∙ ap (λ (x : List Reloc). record c { relocs = x }) relocs

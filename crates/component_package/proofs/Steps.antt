@@ -83,6 +83,10 @@ field_counts b before i raw None = refl
 field_counts b before i raw (Some kind) =
     elim (cases_Bool (has_place_byte raw && is_inside (header_of b) (reloc_with raw kind))) [ inl there ↦ rw there refl | inr elsewhere ↦ rw elsewhere refl ]
 
+-- the step of a relocation finds its fault
+pub reloc_step_is : (b : List ℕ) (i : ℕ) → reloc_step (header_of b) b i ≡ reloc_fault b i
+reloc_step_is b i = let raw = raw_reloc b i in ap result_err (field_counts b (reloc_before b i) i raw (kind_of (get_or raw 3 0)))
+
 -- the fault of a relocation, by what the check was given
 pub reloc_fault_is : (b : List ℕ) (h : Header) (before : Option Reloc) (i : ℕ) (raw field : List ℕ) (r : Result Reloc PackageFault)
     → h ≡ header_of b → before ≡ reloc_before b i → raw ≡ raw_reloc b i → field ≡ spanned_field b (field_span_of h raw) → r ≡ check_reloc_of h before i raw field → reloc_fault b i ≡ result_err r

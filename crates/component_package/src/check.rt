@@ -21,7 +21,7 @@ pub(crate) fn place(n: u8) -> Option<Place>
     }
 }
 
-fn length(h: &Header, place: Place) -> u16
+fn length_of(h: &Header, place: Place) -> u16
     ensures { result ≡ length_of h.now place }
 {
     match place {
@@ -51,15 +51,12 @@ pub fn check_export(
     ensures { result ≡ check_export_of h.now before i raw.now }
 {
     let symbol = u16_in(raw, 0);
-    if symbol < 16 {
-        return Err(PackageFault::ExportOrder(i));
-    }
-    if !is_above(before, symbol) {
+    if symbol < 16 || !is_above(before, symbol) {
         return Err(PackageFault::ExportOrder(i));
     }
     let value = u16_in(raw, 4);
     match place(raw[2] % 128) {
-        Some(place) if raw[3] == 0 && value <= length(h, place) => Ok(Export {
+        Some(place) if raw[3] == 0 && value <= length_of(h, place) => Ok(Export {
             symbol,
             place,
             weak: 128 <= raw[2],

@@ -113,7 +113,6 @@ fn header_of(alloc: Global, p: &Package) -> Result<Vec<u8>, AllocError>
 /// The package of a component: its one spelling. `read_package` of it gives the component back.
 pub fn write_package(alloc: Global, p: &Package) -> Result<Vec<u8>, NoMemory>
     requires { IsComponent p.now }
-    ensures spelling { IfOk result (λ v. v.items ≡ spelling p.now) }
     ensures spells { IfOk result (λ v. Spells v.items p.now) }
     ensures reads_back { IfOk result (λ v. (package_fault v.items ≡ None) × (component_of v.items ≡ p.now)) }
 {

@@ -1,4 +1,4 @@
-use Rattle.std.proofs.Common.{◌≡◌, ℕ, ◌+◌, ◌*◌, ◌<◌, ◌≤◌, Some, None, Option, List, [], ◌∷◌, ◌++◌, add-one, length, take, get_or, refl, sym, ap, ap₂, subst, ◌∙◌, arith}
+use Rattle.std.proofs.Common.{◌≡◌, ℕ, ◌+◌, ◌*◌, ◌<◌, ◌≤◌, Some, None, Option, List, [], ◌∷◌, ◌++◌, add-one, length, take, get_or, refl, sym, ap, ap₂, subst, ◌∙◌, arith, rules}
 use Rattle.std.specs.Option.{option_or}
 use Rattle.std.proofs.lemmas.List.{take_more_set, length-set}
 use Rattle.avr_reloc.specs.Field.{AreBytes}
@@ -45,13 +45,14 @@ loop-i-preserved c =
 pub returns-clause-spells : goal.returns-clause-spells
 returns-clause-spells c =
     let b = c.args.bytes.now in
+    let bytes : AreBytes b = search rules in
     let count : manifest_count b ≡ c.loop-i.i = omega (arith, c.loop-i-test.false, c.loop-i.auto.i-end) in
     let none : size_fault b ≡ None = sym c.size_fault.ensures ∙ c.in_default.is in
     let first : first_fault (entry_fault b) (manifest_count b) ≡ None = subst (λ (n : ℕ). first_fault (entry_fault b) n ≡ None) (sym count) c.loop-i.invariant.none in
     let faultless : manifest_fault b ≡ None = fault_parts b ∙ ap₂ (λ (x y : Option ManifestFault). option_or x y) none first in
     let read : take (manifest_count b) c.loop-i.entries ≡ list_of (manifest_entry b) (manifest_count b) = subst (λ (n : ℕ). take n c.loop-i.entries ≡ list_of (manifest_entry b) n) (sym count) c.loop-i.invariant.read in
     let same : release_of (record { release = c.u32_in.result; count = manifest_count b; entries = c.loop-i.entries }) ≡ release_in b = ap₂ the_release c.u32_in.ensures read in
-    subst (λ (r : Release). SpellsRelease b r) (sym same) (spelled_release b c.type_inv.bytes faultless)
+    subst (λ (r : Release). SpellsRelease b r) (sym same) (spelled_release b bytes faultless)
   where
     the_release : ℕ → List Entry → Release
     the_release n es = record { number = n; entries = es }

@@ -3,7 +3,7 @@ use Rattle.avr_reloc.specs.Field.{AreBytes}
 use Rattle.component_package.specs.Reading.{package_fault}
 use Rattle.component_package.proofs.HeaderLemmas.{good_header}
 use Rattle.component_package.proofs.Steps.{faultless_parts}
-use Rattle.component_package.proofs.Sound.{spells}
+use Rattle.component_package.proofs.InGrammar.{spells}
 use Rattle.component_package.proofs.read.read_package.Goals as goal
 
 pub check_exports-requires-clause-whole : goal.check_exports-requires-clause-whole

@@ -37,7 +37,7 @@ slice_slice b low w i n within inside =
     let same : length (slice_range b (low + i) (low + i + n)) ≡ n = length-field b (low + i) n (omega arith) in
     same_number_lists (slice_range (slice_range b low (low + w)) i (i + n)) (slice_range b (low + i) (low + i + n)) (inner ∙ sym same)
     (λ k lt. get_or-slice (slice_range b low (low + w)) i (i + n) k (omega arith) ∙ get_or-slice b low (low + w) (i + k) (omega arith)
-      ∙ ap (λ j. get_or b j 0) (omega arith) ∙ sym (get_or-slice b (low + i) (low + i + n) k (omega arith)))
+    ∙ ap (λ j. get_or b j 0) (omega arith) ∙ sym (get_or-slice b (low + i) (low + i + n) k (omega arith)))
 
 -- ---- value bits
 
