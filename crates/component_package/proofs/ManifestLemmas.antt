@@ -222,6 +222,16 @@ list_of-front f (y ∷ ys) i each lt =
     let xs = y ∷ ys in
     sym (fill_by_all f (take i xs) i y (length-take-le i xs (omega arith)) (λ k small. get_or-take i xs k y small ∙ sym (each k (get_or xs k y) (slice_get-get_or xs k y (omega arith)))))
 
+-- ---- pieces put behind one another
+
+-- a piece put behind what was put before it
+pub put_next : (a old xs piece : List ℕ) (n : ℕ) → xs ≡ a ++ drop n old → length a ≡ n → take n xs ++ (piece ++ drop (n + length piece) xs) ≡ (a ++ piece) ++ drop (n + length piece) old
+put_next a old xs piece n is len =
+    let front : take n xs ≡ a = ap (take n) is ∙ take_at a (drop n old) n len in
+    let behind : drop n xs ≡ drop n old = ap (drop n) is ∙ drop_at a (drop n old) n len in
+    let rest : drop (n + length piece) xs ≡ drop (n + length piece) old = sym (drop-drop (length piece) n xs) ∙ ap (drop (length piece)) behind ∙ drop-drop (length piece) n old in
+    ap₂ (λ (x y : List ℕ). x ++ (piece ++ y)) front rest ∙ sym (append_assoc a piece (drop (n + length piece) old))
+
 -- ---- the release that faultless bytes spell
 
 -- what an entry is that has no fault
@@ -267,7 +277,7 @@ spelled_release b bytes none =
 
 -- ---- and back
 
-entry_wide : (e : Entry) → IsManifestEntry e → length (manifest_entry_bytes e) ≡ 38
+pub entry_wide : (e : Entry) → IsManifestEntry e → length (manifest_entry_bytes e) ≡ 38
 entry_wide e is = omega (arith, is.digest)
 
 -- what stands at entry i of a manifest that a release spells
@@ -315,3 +325,15 @@ faultless_release b r spells =
         let read : manifest_entry (manifest_bytes r) i ≡ x.0 = entry_read r is i x.0 x.1 in
         let front : list_of (manifest_entry (manifest_bytes r)) i ≡ take i r.entries = list_of-front (manifest_entry (manifest_bytes r)) r.entries i (entry_read r is) lt in
         ap₂ fault_of_entry front read ∙ entry_passes (take i r.entries) x.0 (all_at IsManifestEntry r.entries i x.0 is.entries x.1) (apart_before (λ (e : Entry). e.component) r.entries i x.0 is.distinct x.1)
+
+-- what holds of each element holds of each of the first
+pub all_front : {X : Type 0} (P : X → Type 0) (n : ℕ) (xs : List X) → AllByRecursion P xs → AllByRecursion P (take n xs)
+all_front P zero xs all = tt
+all_front P (suc n) [] all = tt
+all_front P (suc n) (x ∷ xs) all = (all.0, all_front P n xs all.1)
+
+-- an element among the first
+pub front_at : {X : Type 0} (P : X → Type 0) (n : ℕ) (xs : List X) (i : ℕ) (d : X) → AllByRecursion P (take n xs) → i < n → n ≤ length xs → P (get_or xs i d)
+front_at {X} P n xs i d all lt fits =
+    let within : i < length (take n xs) = omega (arith, length-take-le n xs fits) in
+    all_at P (take n xs) i (get_or xs i d) all (slice_get-get_or (take n xs) i d within ∙ ap (λ (x : X). Some x) (get_or-take n xs i d lt))

@@ -1,11 +1,12 @@
 //! Manifests: what a release consists of, and where the mote keeps its packages.
 
-ghost use Rattle.std.specs.Prelude.{◌≡◌, ◌==◌, ◌↔◌, ◌+◌, ◌*◌, ◌<◌, ◌≤◌, ◌^◌, ◌++◌, ◌∷◌, [], IsTrue, IfOk, IfSome, IfNone, length, take, drop, slice_get, slice_range};
+ghost use Rattle.std.specs.Prelude.{◌≡◌, ◌==◌, ◌↔◌, ◌+◌, ◌*◌, ◌<◌, ◌≤◌, ◌^◌, ◌++◌, ◌∷◌, [], is_none, is_some, IsTrue, IfOk, IfSome, IfNone, length, take, drop, slice_get, slice_range};
 ghost use Rattle.std.specs.List.{concat, list_any};
 ghost use Rattle.std.specs.Result.{result_err};
-ghost use Rattle.component_package.specs.Numbers.{u32_at, u32_bytes};
-ghost use Rattle.component_package.specs.Manifest.{Release, StoredRelease, IsRelease, IsStored, IsManifest, IsSlotManifest, SpellsRelease, Stores, release_of, stored_of, released, release_in, stored_in, manifest_fault, manifest_bytes, manifest_entry_bytes, manifest_entry_at, stored_bytes};
-ghost use Rattle.component_package.specs.ManifestSteps.{size_fault, fault_of_entry};
+ghost use Rattle.component_package.specs.Numbers.{u16_bytes, u32_at, u32_bytes};
+ghost use Rattle.component_package.specs.Manifest.{Release, StoredRelease, IsRelease, IsStored, IsManifest, IsSlotManifest, SpellsRelease, Stores, release_of, stored_of, released, release_in, stored_in, manifest_fault, manifest_bytes, manifest_entry_bytes, manifest_entry_at, stored_bytes, placed_at};
+ghost use Rattle.component_package.specs.ManifestSteps.{size_fault, fault_of_entry, is_place, place_fault, block_of};
+ghost use Rattle.component_package.specs.Reading.{first_fault, list_of};
 
 use crate::header::u16_in;
 
@@ -178,21 +179,34 @@ pub fn read_manifest(bytes: &[u8]) -> Result<Manifest, ManifestFault>
     })
 }
 
+// The numbers of an entry.
+fn numbers_array(component: u16, version: u16, length: u16) -> [u8; 6]
+    ensures { result ≡ u16_bytes component ++ (u16_bytes version ++ u16_bytes length) }
+{
+    let [component_low, component_high] = component.to_le_bytes();
+    let [version_low, version_high] = version.to_le_bytes();
+    let [length_low, length_high] = length.to_le_bytes();
+    [
+        component_low,
+        component_high,
+        version_low,
+        version_high,
+        length_low,
+        length_high,
+    ]
+}
+
 // The 38 bytes of an entry.
 fn entry_array(e: &Entry) -> [u8; 38]
     ensures { result ≡ manifest_entry_bytes e.now }
 {
     let mut bytes = [0; 38];
-    let [component_low, component_high] = e.component.to_le_bytes();
-    let [version_low, version_high] = e.version.to_le_bytes();
-    let [length_low, length_high] = e.length.to_le_bytes();
-    bytes[0] = component_low;
-    bytes[1] = component_high;
-    bytes[2] = version_low;
-    bytes[3] = version_high;
-    bytes[4] = length_low;
-    bytes[5] = length_high;
-    bytes[6..38].copy_from_slice(&e.digest);
+    put(
+        &mut bytes,
+        0,
+        &numbers_array(e.component, e.version, e.length),
+    );
+    put(&mut bytes, 6, &e.digest);
     bytes
 }
 
@@ -224,4 +238,105 @@ pub fn write_manifest(m: &Manifest, into: &mut [u8; 613]) -> u16
         put(into, 5 + 38 * i as usize, &entry_array(&m.entries[i as usize]));
     }
     5 + 38 * m.count as u16
+}
+
+// What stands in place `i` of a side: an entry with its slot, or zeros.
+fn block_array(m: &SlotManifest, i: u8) -> [u8; 64]
+    requires { m.now.manifest.count ≤ 16 }
+    ensures { result ≡ block_of (stored_of m.now) i }
+{
+    let mut bytes = [0; 64];
+    if i < m.manifest.count {
+        put(&mut bytes, 0, &entry_array(&m.manifest.entries[i as usize]));
+        bytes[38] = m.slots[i as usize];
+    }
+    bytes
+}
+
+/// A page of a stored manifest. Page 0 has release u32, count u8 and 251 zeros. Pages 1 to 4 have four entries each, one at every 64
+/// bytes: the 38 bytes of a manifest, the slot and 25 zeros. Entries from the count on are zeros.
+pub fn slot_page(m: &SlotManifest, page: u8) -> [u8; 256]
+    requires manifest { IsSlotManifest m.now }
+    requires page { page < 5 }
+    ensures { result ≡ slice_range (stored_bytes (stored_of m.now)) (256 * page) (256 * page + 256) }
+{
+    let mut bytes = [0; 256];
+    if page == 0 {
+        put(&mut bytes, 0, &front_array(&m.manifest));
+        return bytes;
+    }
+    for j in 0..4u8 {
+        put(&mut bytes, 64 * j as usize, &block_array(m, 4 * (page - 1) + j));
+    }
+    bytes
+}
+
+// Whether an entry with its slot may stand behind these.
+fn is_place(entries: &[Entry], slots: &[u8], entry: &Entry, slot: u8) -> bool
+    ensures { result ≡ is_place entries.now slots.now entry.now slot }
+{
+    entry_fault(entries, entry).is_none() && slot < 32 && !slots.contains(&slot)
+}
+
+// The manifest whose entries the pages say, where each may stand behind those before it.
+fn places_in(pages: &[[u8; 256]; 5], count: u8) -> Option<SlotManifest>
+    requires { count ≤ 16 }
+    ensures fault { is_none result ≡ is_some (first_fault (place_fault (concat pages.now)) count) }
+    ensures count { IfSome result (λ m. m.manifest.count ≡ count) }
+    ensures number { IfSome result (λ m. m.manifest.release ≡ u32_at (concat pages.now) 0) }
+    ensures placed { IfSome result (λ m. (stored_of m).placed ≡ list_of (placed_at (concat pages.now)) count) }
+{
+    let mut entries = [NO_ENTRY; 16];
+    let mut slots = [0; 16];
+    for i in 0..count {
+        let page = &pages[1 + i as usize / 4];
+        let at = 64 * (i as usize % 4);
+        let entry = entry_in(page, at);
+        let slot = page[at + 38];
+        if !is_place(&entries[..i as usize], &slots[..i as usize], &entry, slot) {
+            return None;
+        }
+        entries[i as usize] = entry;
+        slots[i as usize] = slot;
+    }
+    let release = u32_in(&pages[0], 0);
+    let manifest = Manifest {
+        release,
+        count,
+        entries,
+    };
+    Some(SlotManifest { manifest, slots })
+}
+
+fn is_same(a: &[u8; 256], b: &[u8; 256]) -> bool
+    ensures { IsTrue result ↔ (a.now ≡ b.now) }
+{
+    a == b
+}
+
+// Whether the pages are those of this manifest.
+fn has_pages(m: &SlotManifest, pages: &[[u8; 256]; 5]) -> bool
+    requires { IsSlotManifest m.now }
+    ensures { IsTrue result ↔ (concat pages.now ≡ stored_bytes (stored_of m.now)) }
+{
+    for page in 0..5u8 {
+        if !is_same(&slot_page(m, page), &pages[page as usize]) {
+            return false;
+        }
+    }
+    true
+}
+
+/// The stored manifest whose five pages these are, or `None` where they are no stored manifest's.
+pub fn read_slot_pages(pages: &[[u8; 256]; 5]) -> Option<SlotManifest>
+    ensures some { IfSome result (λ m. Stores (concat pages.now) (stored_of m)) }
+    ensures manifest { IfSome result IsSlotManifest }
+    ensures none { IfNone result ((m : StoredRelease) → Stores (concat pages.now) m → ⊥) }
+{
+    let count = pages[0][4];
+    if count > 16 {
+        return None;
+    }
+    let m = places_in(pages, count)?;
+    if has_pages(&m, pages) { Some(m) } else { None }
 }

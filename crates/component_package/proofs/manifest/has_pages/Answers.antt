@@ -1,0 +1,1 @@
+use Rattle.component_package.proofs.manifest.has_pages.Goals as goal

@@ -1,0 +1,1 @@
+use Rattle.component_package.proofs.manifest.places_in.Goals as goal

@@ -1,0 +1,1 @@
+use Rattle.component_package.proofs.manifest.read_slot_pages.Goals as goal
