@@ -10,3 +10,5 @@ pub mod InGrammar
 pub mod ReadAgain
 pub mod ManifestLemmas
 pub mod Laws
+pub mod StoredLemmas
+pub mod ManifestLaws

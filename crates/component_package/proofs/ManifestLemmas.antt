@@ -303,7 +303,8 @@ release_again b r spells =
     the_release : ℕ → List Entry → Release
     the_release n es = record { number = n; entries = es }
 
-entry_passes : (before : List Entry) (e : Entry) → IsManifestEntry e → list_any (λ f. eqb f.component e.component) before ≡ false → fault_of_entry before e ≡ None
+-- a good entry with a new component
+pub entry_passes : (before : List Entry) (e : Entry) → IsManifestEntry e → list_any (λ f. eqb f.component e.component) before ≡ false → fault_of_entry before e ≡ None
 entry_passes before e is new =
     let least : nat_lt e.length 32 ≡ false = le-ltb e.length 32 is.least in
     let most : nat_lt 9984 e.length ≡ false = le-ltb 9984 e.length is.most in

@@ -1,10 +1,11 @@
 //! Manifests: what a release consists of, and where the mote keeps its packages.
 
-ghost use Rattle.std.specs.Prelude.{◌≡◌, ◌==◌, ◌↔◌, ◌+◌, ◌*◌, ◌<◌, ◌≤◌, ◌^◌, ◌++◌, ◌∷◌, [], is_none, is_some, IsTrue, IfOk, IfSome, IfNone, length, take, drop, slice_get, slice_range};
+ghost use Rattle.std.specs.Prelude.{All, ◌≡◌, ◌==◌, ◌↔◌, ◌+◌, ◌*◌, ◌<◌, ◌≤◌, ◌^◌, ◌++◌, ◌∷◌, [], is_none, is_some, IsTrue, IfOk, IfSome, IfNone, length, take, drop, replicate, slice_get, slice_range};
 ghost use Rattle.std.specs.List.{concat, list_any};
 ghost use Rattle.std.specs.Result.{result_err};
+ghost use Rattle.avr_reloc.specs.Field.{AreBytes};
 ghost use Rattle.component_package.specs.Numbers.{u16_bytes, u32_at, u32_bytes};
-ghost use Rattle.component_package.specs.Manifest.{Release, StoredRelease, IsRelease, IsStored, IsManifest, IsSlotManifest, SpellsRelease, Stores, release_of, stored_of, released, release_in, stored_in, manifest_fault, manifest_bytes, manifest_entry_bytes, manifest_entry_at, stored_bytes, placed_at};
+ghost use Rattle.component_package.specs.Manifest.{Release, StoredRelease, IsRelease, IsStored, IsManifest, IsSlotManifest, SpellsRelease, Stores, release_of, stored_of, released, release_in, stored_in, manifest_fault, manifest_bytes, manifest_entry_bytes, manifest_entry_at, stored_bytes, placed_bytes, placed_at};
 ghost use Rattle.component_package.specs.ManifestSteps.{size_fault, fault_of_entry, is_place, place_fault, block_of};
 ghost use Rattle.component_package.specs.Reading.{first_fault, list_of};
 
@@ -240,17 +241,31 @@ pub fn write_manifest(m: &Manifest, into: &mut [u8; 613]) -> u16
     5 + 38 * m.count as u16
 }
 
+// The 64 bytes of an entry with its slot.
+fn placed_array(e: &Entry, slot: u8) -> [u8; 64]
+    ensures { result ≡ placed_bytes (record { entry = e.now; slot = slot }) }
+{
+    let mut bytes = [0; 64];
+    put(&mut bytes, 0, &entry_array(e));
+    bytes[38] = slot;
+    bytes
+}
+
+fn no_place() -> [u8; 64]
+    ensures { result ≡ replicate 64 0 }
+{
+    [0; 64]
+}
+
 // What stands in place `i` of a side: an entry with its slot, or zeros.
 fn block_array(m: &SlotManifest, i: u8) -> [u8; 64]
     requires { m.now.manifest.count ≤ 16 }
     ensures { result ≡ block_of (stored_of m.now) i }
 {
-    let mut bytes = [0; 64];
     if i < m.manifest.count {
-        put(&mut bytes, 0, &entry_array(&m.manifest.entries[i as usize]));
-        bytes[38] = m.slots[i as usize];
+        return placed_array(&m.manifest.entries[i as usize], m.slots[i as usize]);
     }
-    bytes
+    no_place()
 }
 
 /// A page of a stored manifest. Page 0 has release u32, count u8 and 251 zeros. Pages 1 to 4 have four entries each, one at every 64
@@ -278,9 +293,28 @@ fn is_place(entries: &[Entry], slots: &[u8], entry: &Entry, slot: u8) -> bool
     entry_fault(entries, entry).is_none() && slot < 32 && !slots.contains(&slot)
 }
 
+fn is_page(page: &[u8; 256])
+    ensures size { length page.now ≡ 256 }
+    ensures bytes { AreBytes page.now }
+{
+    let _first = page[0];
+}
+
+// Five pages have 256 bytes each.
+fn are_pages(pages: &[[u8; 256]; 5])
+    ensures count { length pages.now ≡ 5 }
+    ensures sizes { All (λ p. length p ≡ 256) pages.now }
+    ensures bytes { All AreBytes pages.now }
+{
+    for page in 0..5usize {
+        is_page(&pages[page]);
+    }
+}
+
 // The manifest whose entries the pages say, where each may stand behind those before it.
 fn places_in(pages: &[[u8; 256]; 5], count: u8) -> Option<SlotManifest>
-    requires { count ≤ 16 }
+    requires count { count ≤ 16 }
+    requires sizes { All (λ p. length p ≡ 256) pages.now }
     ensures fault { is_none result ≡ is_some (first_fault (place_fault (concat pages.now)) count) }
     ensures count { IfSome result (λ m. m.manifest.count ≡ count) }
     ensures number { IfSome result (λ m. m.manifest.release ≡ u32_at (concat pages.now) 0) }
@@ -316,7 +350,8 @@ fn is_same(a: &[u8; 256], b: &[u8; 256]) -> bool
 
 // Whether the pages are those of this manifest.
 fn has_pages(m: &SlotManifest, pages: &[[u8; 256]; 5]) -> bool
-    requires { IsSlotManifest m.now }
+    requires manifest { IsSlotManifest m.now }
+    requires sizes { All (λ p. length p ≡ 256) pages.now }
     ensures { IsTrue result ↔ (concat pages.now ≡ stored_bytes (stored_of m.now)) }
 {
     for page in 0..5u8 {
@@ -333,6 +368,7 @@ pub fn read_slot_pages(pages: &[[u8; 256]; 5]) -> Option<SlotManifest>
     ensures manifest { IfSome result IsSlotManifest }
     ensures none { IfNone result ((m : StoredRelease) → Stores (concat pages.now) m → ⊥) }
 {
+    are_pages(pages);
     let count = pages[0][4];
     if count > 16 {
         return None;
