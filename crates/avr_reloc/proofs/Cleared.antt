@@ -1,5 +1,5 @@
 -- Bytes as value bits and others, and what lies behind a field's width.
-use Rattle.std.proofs.Common.{◌≡◌, ℕ, suc, ◌+◌, ◌-◌, ◌<◌, ◌≤◌, ◌⊎◌, inl, inr, Bool, true, false, ℤ, List, [], ◌∷◌, length, get_or, eqb, map, replicate, refl, sym, ap, ap₂, ◌∙◌, arith}
+use Rattle.std.proofs.Common.{◌≡◌, ℕ, suc, ◌+◌, ◌-◌, ◌<◌, ◌≤◌, inl, inr, Bool, true, ℤ, List, [], ◌∷◌, length, get_or, eqb, map, replicate, refl, sym, ap, ap₂, ◌∙◌, arith}
 use Rattle.std.specs.Prelude.{nat_lt, bit_and, ◌||◌}
 use Rattle.std.specs.List.{list_all}
 use Rattle.std.proofs.lemmas.Bool.{agree_below, agree_below_at, and_parts, cases_lt, le-ltb, eqb-true}
@@ -10,7 +10,7 @@ use Rattle.avr_reloc.specs.declared.kind.Shape.TheVariants as shapes
 use Rattle.avr_reloc.specs.Kind.{shape_of, width_of, mask_of}
 use Rattle.avr_reloc.specs.Field.{AreBytes, keep_of, masked, HasZeroValue, FieldHolds}
 use Rattle.avr_reloc.proofs.Tables.{same_below}
-use Rattle.avr_reloc.proofs.Patched.{get_or-masked}
+use Rattle.avr_reloc.proofs.Patched.{get_or-masked, mask_length, width_four}
 
 -- ---- Clearing
 
@@ -47,25 +47,13 @@ mask_splits shapes.Call = refl
 mask_splits shapes.Displacement = refl
 mask_splits shapes.Adiw = refl
 
--- a field has at most the bytes of its mask
-width_in_mask : (s : Shape) → width_of s ≤ length (mask_of s)
-width_in_mask shapes.Byte = omega arith
-width_in_mask shapes.Word = omega arith
-width_in_mask shapes.Long = omega arith
-width_in_mask shapes.Immediate = omega arith
-width_in_mask shapes.Branch = omega arith
-width_in_mask shapes.Jump = omega arith
-width_in_mask shapes.Call = omega arith
-width_in_mask shapes.Displacement = omega arith
-width_in_mask shapes.Adiw = omega arith
-
 -- a patched field with its value bits cleared is the package's field
 pub cleared : (t : RelocType) (x place : ℤ) (q f : List ℕ) → AreBytes q → length q ≡ width_of (shape_of t) → HasZeroValue (shape_of t) q
     → FieldHolds t x place q f → masked f (keep_of (shape_of t)) ≡ q
 cleared t x place q f bytes wide none field =
     let s = shape_of t in
     let empty : masked q (mask_of s) ≡ replicate (length q) 0 = rw wide none in
-    field.outside ∙ restored (mask_of s) q bytes (omega (arith, wide, width_in_mask s)) (mask_splits s) empty
+    field.outside ∙ restored (mask_of s) q bytes (omega (arith, wide, mask_length s, width_four s)) (mask_splits s) empty
 
 -- ---- Behind the width
 

@@ -1,5 +1,6 @@
 -- What a finished field says, and what a patch is.
-use Rattle.std.specs.Prelude.{◌≡◌, ℕ, ◌+◌, ◌-◌, ◌*◌, ◌/◌, ◌%◌, ◌<◌, ◌≤◌, ◌^◌, ℤ, pos, ◌≤ℤ◌, List, [], ◌∷◌, None, length, map, replicate, slice_index, bit_and, bit_or}
+use Rattle.std.specs.Prelude.{◌≡◌, ℕ, ◌+◌, ◌-◌, ◌*◌, ◌/◌, ◌%◌, ◌<◌, ◌≤◌, ◌^◌, ℤ, pos, ◌≤ℤ◌}
+use Rattle.std.specs.Prelude.{List, [], ◌∷◌, None, length, map, replicate, slice_index, bit_and, bit_or}
 use Rattle.avr_reloc.specs.declared.kind.RelocType.{RelocType}
 use Rattle.avr_reloc.specs.declared.kind.Shape.{Shape}
 use Rattle.avr_reloc.specs.declared.kind.Shape.TheVariants as shapes
@@ -13,7 +14,7 @@ use Rattle.avr_reloc.specs.Kind.{shape_of, width_of, mask_of, fault_of, distance
 abbrev pub word_at : List ℕ → ℕ → ℕ
 word_at f i = slice_index f i + 256 * slice_index f (i + 1)
 
--- the number that the value bits of a field say
+-- the number that the value bits of a field say; a call's is the whole 22-bit address, whose high bits stand in the first word
 abbrev pub reading_of : Shape → List ℕ → ℕ
 reading_of shapes.Byte f = slice_index f 0
 reading_of shapes.Word f = word_at f 0
@@ -103,3 +104,10 @@ GivesField t x place p =
     (q old : List ℕ) → AreBytes old → length old ≡ width_of (shape_of t)
     → masked old (keep_of (shape_of t)) ≡ masked q (keep_of (shape_of t))
     → FieldHolds t x place q (patched p.keep p.set old)
+
+-- byte i of the patched field is what Patch::byte makes of byte i before, as where a field is patched in two pieces
+abbrev pub GivesBytes : RelocType → ℤ → ℤ → Patch → Type 0
+GivesBytes t x place p =
+    (q old f : List ℕ) → AreBytes old → AreBytes f → length old ≡ width_of (shape_of t)
+    → masked old (keep_of (shape_of t)) ≡ masked q (keep_of (shape_of t)) → FieldHolds t x place q f
+    → (i : ℕ) → i < width_of (shape_of t) → bit_or (bit_and (slice_index old i) (slice_index p.keep i)) (slice_index p.set i) ≡ slice_index f i

@@ -1,5 +1,6 @@
 -- The table of relocation types, column by column. x is the symbol's address plus the addend (S+A), d the distance from the field.
-use Rattle.std.specs.Prelude.{◌≡◌, ℕ, ◌-◌, ◌^◌, ℤ, pos, neg_ℤ, ◌-ℤ◌, Bool, true, false, ◌&&◌, ◌||◌, Option, Some, None, List, [], ◌∷◌, if◌then◌else◌, ◌==◌, slice_get}
+use Rattle.std.specs.Prelude.{ℕ, ◌-◌, ◌^◌, ℤ, pos, neg_ℤ, ◌-ℤ◌}
+use Rattle.std.specs.Prelude.{Bool, true, false, ◌&&◌, ◌||◌, Option, Some, None, List, [], ◌∷◌, if◌then◌else◌, ◌==◌, slice_get}
 use Rattle.avr_reloc.specs.declared.kind.RelocType.{RelocType}
 use Rattle.avr_reloc.specs.declared.kind.RelocType.TheVariants as kinds
 use Rattle.avr_reloc.specs.declared.kind.Shape.{Shape}
@@ -123,7 +124,7 @@ measures_distance kinds.Rel7 = true
 measures_distance kinds.Rel13 = true
 measures_distance _ = false
 
--- the numbers that a type can hold
+-- the numbers that a type can hold; data memory is numbered from 0x800000
 abbrev pub is_in_range : RelocType → ℤ → Bool
 is_in_range kinds.Rel7 v = is_within (minus 128) (pos 127) v
 is_in_range kinds.Rel13 v = is_within (minus 4096) (pos 4094) v

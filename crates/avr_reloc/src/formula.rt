@@ -4,7 +4,7 @@ ghost use Rattle.std.specs.Prelude.{◌≡◌, ◌<◌, ◌≤◌, ◌^◌, IfOk
 ghost use Rattle.std.specs.Result.{result_err};
 ghost use Rattle.avr_reloc.specs.Number.{half_of, remainder_of, byte_of};
 ghost use Rattle.avr_reloc.specs.Kind.{shape_of, is_in_range, tested_of, fault_of, value_of, distance_of};
-ghost use Rattle.avr_reloc.specs.Field.{keep_of, limit_of, SaysOnly, IsPatchOf, IsPadded, GivesField, IsNear};
+ghost use Rattle.avr_reloc.specs.Field.{keep_of, limit_of, SaysOnly, IsPatchOf, IsPadded, GivesField, GivesBytes, IsNear};
 
 use crate::kind::{RelocType, Shape};
 use crate::patch::{Patch, RangeFault};
@@ -149,8 +149,9 @@ fn keep(t: RelocType) -> [u8; 4]
     [!mask[0], !mask[1], !mask[2], !mask[3]]
 }
 
-/// The patch of a field at `place` for the type `t` and S+A, both from -2^40 to 2^40; or why the
-/// field can't hold the value.
+/// The patch of a field of type `t` at the address `place`, for S+A; or why the field can't hold the
+/// value. Both numbers are from -2^40 to 2^40. Over the package's bytes of the field, or over an
+/// older patch of them, the patch gives the same bytes.
 pub fn patch_of(t: RelocType, s_plus_a: i64, place: i64) -> Result<Patch, RangeFault>
     requires sum { IsNear s_plus_a }
     requires place { IsNear place }
@@ -158,10 +159,15 @@ pub fn patch_of(t: RelocType, s_plus_a: i64, place: i64) -> Result<Patch, RangeF
     ensures patch { IfOk result (IsPatchOf t s_plus_a place) }
     ensures padded { IfOk result IsPadded }
     ensures field { IfOk result (GivesField t s_plus_a place) }
+    ensures bytes { IfOk result (GivesBytes t s_plus_a place) }
 {
     if let Some(fault) = fault(t, s_plus_a, place) {
         return Err(fault);
     }
     let value = value(t, s_plus_a, distance(s_plus_a, place));
-    Ok(Patch { width: t.width(), keep: keep(t), set: spread(t.shape(), value) })
+    Ok(Patch {
+        width: t.width(),
+        keep: keep(t),
+        set: spread(t.shape(), value),
+    })
 }

@@ -3,14 +3,15 @@
 use super::*;
 use std::test::Fail;
 
-/// What becomes of four bytes of an image whose field begins with the first.
-fn patched(t: RelocType, x: i32, place: u16, old: [u8; 4]) -> Result<[u8; 4], RangeFault> {
+/// What becomes of four bytes of an image whose field begins with the first. They are written as one
+/// number in their order.
+fn patched(t: RelocType, x: i32, place: u16, old: u32) -> Result<u32, RangeFault> {
     let patch = patch_of(t, x as i64, place as i64)?;
-    let mut new = old;
+    let mut bytes = old.to_be_bytes();
     for i in 0..patch.width {
-        new[i as usize] = patch.byte(i, old[i as usize]);
+        bytes[i as usize] = patch.byte(i, bytes[i as usize]);
     }
-    Ok(new)
+    Ok(u32::from_be_bytes(bytes))
 }
 
 #[test]
@@ -18,20 +19,20 @@ fn fields_of_instructions(rt: HostRuntime) -> Result<(), Fail> {
     use RangeFault::{Odd, TooFar};
     use RelocType::{Call, Lo8, Rel7, Rel13, Six, SixAdiw};
     let rows = [
-        (Call, 0x1234, 0, [0x0E, 0x94, 0, 0], Ok([0x0E, 0x94, 0x1A, 0x09])),
-        (Call, 0x1234, 0, [0xFF, 0x95, 0xFF, 0xFF], Ok([0x0E, 0x94, 0x1A, 0x09])),
-        (Lo8, 0x34, 0, [0x80, 0xE0, 0xAA, 0xBB], Ok([0x84, 0xE3, 0xAA, 0xBB])),
-        (Rel13, 0xFE, 0x100, [0x00, 0xC0, 0, 0], Ok([0xFE, 0xCF, 0, 0])),
-        (Rel13, 4096, 0, [0x00, 0xC0, 0, 0], Ok([0xFF, 0xC7, 0, 0])),
-        (Rel13, 4098, 0, [0x00, 0xC0, 0, 0], Err(TooFar(4096))),
-        (Rel13, 0, 4094, [0x00, 0xC0, 0, 0], Ok([0x00, 0xC8, 0, 0])),
-        (Rel13, 0, 4096, [0x00, 0xC0, 0, 0], Err(TooFar(-4098))),
-        (Rel13, 3, 0, [0x00, 0xC0, 0, 0], Err(Odd)),
-        (Rel7, 128, 0, [0x01, 0xF4, 0, 0], Ok([0xF9, 0xF5, 0, 0])),
-        (Rel7, 130, 0, [0x01, 0xF4, 0, 0], Err(TooFar(128))),
-        (Six, 63, 0, [0x80, 0x81, 0, 0], Ok([0x87, 0xAD, 0, 0])),
-        (Six, 64, 0, [0x80, 0x81, 0, 0], Err(TooFar(64))),
-        (SixAdiw, 63, 0, [0x00, 0x96, 0, 0], Ok([0xCF, 0x96, 0, 0])),
+        (Call, 0x1234, 0, 0x0E94_0000, Ok(0x0E94_1A09)),
+        (Call, 0x1234, 0, 0xFF95_FFFF, Ok(0x0E94_1A09)),
+        (Lo8, 0x34, 0, 0x80E0_AABB, Ok(0x84E3_AABB)),
+        (Rel13, 0xFE, 0x100, 0x00C0_0000, Ok(0xFECF_0000)),
+        (Rel13, 4096, 0, 0x00C0_0000, Ok(0xFFC7_0000)),
+        (Rel13, 4098, 0, 0x00C0_0000, Err(TooFar(4096))),
+        (Rel13, 0, 4094, 0x00C0_0000, Ok(0x00C8_0000)),
+        (Rel13, 0, 4096, 0x00C0_0000, Err(TooFar(-4098))),
+        (Rel13, 3, 0, 0x00C0_0000, Err(Odd)),
+        (Rel7, 128, 0, 0x01F4_0000, Ok(0xF9F5_0000)),
+        (Rel7, 130, 0, 0x01F4_0000, Err(TooFar(128))),
+        (Six, 63, 0, 0x8081_0000, Ok(0x87AD_0000)),
+        (Six, 64, 0, 0x8081_0000, Err(TooFar(64))),
+        (SixAdiw, 63, 0, 0x0096_0000, Ok(0xCF96_0000)),
     ];
     for (t, x, place, old, want) in rows {
         assert_eq!(rt; patched(t, x, place, old), want, "{t:?} {x} at {place}");
@@ -58,16 +59,22 @@ fn ends_of_ranges(rt: HostRuntime) -> Result<(), Fail> {
         (Eight, 0, 255, 1),
     ];
     for (t, least, greatest, step) in ranges {
-        assert!(rt; patched(t, least, 200, [0; 4]).is_ok(), "{t:?} {least}");
-        assert!(rt; patched(t, greatest, 200, [0; 4]).is_ok(), "{t:?} {greatest}");
-        assert!(rt; is_too_far(t, i32::wrapping_sub(least, step)), "{t:?} below {least}");
-        assert!(rt; is_too_far(t, i32::wrapping_add(greatest, step)), "{t:?} above {greatest}");
+        assert!(rt; patched(t, least, 200, 0).is_ok(), "{t:?} {least}");
+        assert!(rt; patched(t, greatest, 200, 0).is_ok(), "{t:?} {greatest}");
+        assert!(rt;
+            is_too_far(t, i32::wrapping_sub(least, step)),
+            "{t:?} below {least}"
+        );
+        assert!(rt;
+            is_too_far(t, i32::wrapping_add(greatest, step)),
+            "{t:?} above {greatest}"
+        );
     }
     Ok(())
 }
 
 fn is_too_far(t: RelocType, x: i32) -> bool {
-    matches!(patched(t, x, 200, [0; 4]), Err(RangeFault::TooFar(_)))
+    matches!(patched(t, x, 200, 0), Err(RangeFault::TooFar(_)))
 }
 
 #[test]
@@ -85,12 +92,24 @@ fn numbers_and_masks(rt: HostRuntime) -> Result<(), Fail> {
 
 #[test]
 fn images(rt: HostRuntime) -> Result<(), Fail> {
-    let call = Fixup { place: 1, kind: RelocType::Call, s_plus_a: 0x1234 };
-    let low = Fixup { place: 5, kind: RelocType::Lo8, s_plus_a: 0x34 };
+    let call = Fixup {
+        place: 1,
+        kind: RelocType::Call,
+        s_plus_a: 0x1234,
+    };
+    let low = Fixup {
+        place: 5,
+        kind: RelocType::Lo8,
+        s_plus_a: 0x34,
+    };
     let mut image = [0xFF, 0x0E, 0x94, 0, 0, 0x80, 0xE0, 0xFF];
     put_all(&mut image, &[call, low]);
     assert_eq!(rt; image, [0xFF, 0x0E, 0x94, 0x1A, 0x09, 0x84, 0xE3, 0xFF]);
-    let odd = Fixup { place: 1, kind: RelocType::Call, s_plus_a: 3 };
+    let odd = Fixup {
+        place: 1,
+        kind: RelocType::Call,
+        s_plus_a: 3,
+    };
     assert_eq!(rt; put_fixup(&mut image, &odd), Err(RangeFault::Odd));
     assert_eq!(rt; put_fixup(&mut image, &low), Ok(()));
     assert_eq!(rt; image, [0xFF, 0x0E, 0x94, 0x1A, 0x09, 0x84, 0xE3, 0xFF]);

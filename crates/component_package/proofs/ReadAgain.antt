@@ -1,32 +1,31 @@
 -- What is spelled is read again.
-use Rattle.std.proofs.Common.{◌≡◌, ◌⊎◌, ℕ, zero, suc, ◌+◌, ◌-◌, ◌*◌, ◌/◌, ◌%◌, ◌<◌, ◌≤◌, Bool, true, false, cond, eqb, Option, Some, None, Ok, Err, List, [], ◌∷◌, ◌++◌, length, get_or, replicate, refl, sym, ap, subst, ◌∙◌, inl, inr, arith, slice_range, length-append, append_assoc}
+use Rattle.std.proofs.Common.{◌≡◌, ◌⊎◌, ℕ, zero, suc, ◌+◌, ◌-◌, ◌*◌, ◌/◌, ◌%◌, ◌<◌, ◌≤◌, Bool, true, false, cond, eqb, Option, Some, None, Ok, Err, List, [], ◌∷◌, ◌++◌, length, get_or, replicate, refl, sym, ap, ◌∙◌, inl, inr, arith, slice_range, length-append, append_assoc}
 use Rattle.std.specs.Prelude.{slice_get, not, ◌||◌, ◌&&◌, nat_le, nat_lt, bit_and, IsTrue, FitsSigned}
 use Rattle.std.specs.List.{flat_map, list_all}
 use Rattle.std.specs.Result.{result_err}
-use Rattle.std.specs.Int.{w16, cast_signed, cast_unsigned}
+use Rattle.std.specs.Int.{w16, cast_unsigned}
 use Rattle.std.proofs.lemmas.Int.{to_z-of_z}
 use Rattle.std.proofs.lemmas.Nat.{and_le_l}
 use Rattle.std.proofs.lemmas.Bool.{le-leb, le-ltb, lt-ltb, eq-eqb, and_parts}
 use Rattle.std.proofs.lemmas.List.{append-nil, take_at, drop_at}
 use Rattle.std.proofs.lemmas.Option.{slice_get-get_or, slice_get_within}
 use Rattle.avr_reloc.specs.declared.kind.RelocType.{RelocType}
-use Rattle.avr_reloc.specs.Kind.{kind_of, number_of, shape_of, width_of, mask_of, is_instruction}
-use Rattle.avr_reloc.specs.Field.{masked, HasZeroValue}
+use Rattle.avr_reloc.specs.Kind.{shape_of, mask_of, is_instruction}
+use Rattle.avr_reloc.specs.Field.{masked}
 use Rattle.avr_reloc.proofs.Numbers.{kind_of-number}
 use Rattle.component_package.specs.declared.part.Export.{Export}
 use Rattle.component_package.specs.declared.part.Reloc.{Reloc}
 use Rattle.component_package.specs.declared.part.Header.{Header}
 use Rattle.component_package.specs.declared.part.Place.{Place}
 use Rattle.component_package.specs.declared.part.Place.TheVariants as places
-use Rattle.component_package.specs.declared.fault.PackageFault.{PackageFault}
 use Rattle.component_package.specs.declared.fault.PackageFault.TheVariants.{RelocPlace, RelocOrder, Target, FieldNotZero}
 use Rattle.component_package.specs.Numbers.{u16_at}
 use Rattle.component_package.specs.Component.{Component, export_bytes, reloc_bytes, header_bytes, spelling, number_of_place}
-use Rattle.component_package.specs.Reading.{header_of, header_of_component, exports_at, relocs_at, total_of, header_fault, has_magic, is_blank, is_even, has_even_lengths, has_its_length, export_of, raw_export, first_fault, symbol_before, export_fault, exports_fault, check_export_of, is_above, length_of, place_of, reloc_width, reloc_end, has_place_byte, has_place, is_inside, is_aligned, is_behind, has_target, is_clear, reloc_with, reloc_in, check_reloc_of, reloc_of, raw_reloc, reloc_before, field_at, raw_field, reloc_fault, relocs_fault, package_fault, list_of, component_of}
-use Rattle.component_package.specs.Grammar.{IsExport, ExportsRise, part_of_reloc, IsReloc, position_in, RelocsRise, IsComponent, Spells}
+use Rattle.component_package.specs.Reading.{header_of, header_of_component, exports_at, relocs_at, total_of, header_fault, has_magic, is_blank, is_even, has_even_lengths, has_its_length, export_of, raw_export, first_fault, symbol_before, export_fault, check_export_of, is_above, length_of, place_of, reloc_width, reloc_end, has_place_byte, has_place, is_inside, is_aligned, is_behind, has_target, is_clear, reloc_with, reloc_in, check_reloc_of, reloc_of, raw_reloc, reloc_before, field_at, raw_field, reloc_fault, package_fault, list_of, component_of}
+use Rattle.component_package.specs.Grammar.{IsExport, ExportsRise, part_of_reloc, IsReloc, position_in, RelocsRise, IsComponent}
 use Rattle.component_package.proofs.First.{none_first}
-use Rattle.component_package.proofs.Lists.{entry_in, length-entries, list_of_entries, all_at, Rises, rises_next, rises_above}
-use Rattle.component_package.proofs.InGrammar.{is_zero, part_slice, length_of_part, widths}
+use Rattle.component_package.proofs.Lists.{is_zero, entry_in, length-entries, list_of_entries, all_at, Rises, rises_next, rises_above}
+use Rattle.component_package.proofs.InGrammar.{part_slice, length_of_part, widths}
 use Rattle.component_package.proofs.Steps.{faultless_parts}
 
 -- ---- the header
@@ -50,7 +49,8 @@ length-spelling c =
     omega (arith, exports, relocs, tail, init, code, whole)
 
 -- a header with nothing wrong
-header_passes : (b : List ℕ) (n : ℕ) → nat_lt n 32 ≡ false → has_magic b ≡ true → is_blank b ≡ true → has_even_lengths (header_of b) ≡ true → has_its_length (header_of b) n ≡ true → header_fault b n ≡ None
+header_passes : (b : List ℕ) (n : ℕ) → nat_lt n 32 ≡ false → has_magic b ≡ true → is_blank b ≡ true → has_even_lengths (header_of b) ≡ true
+    → has_its_length (header_of b) n ≡ true → header_fault b n ≡ None
 header_passes b n short magic blank even size = rw (short, magic, blank, even, size) refl
 
 even_passes : (a b c : ℕ) → a % 2 ≡ 0 → b % 2 ≡ 0 → c % 2 ≡ 0 → (is_even a && is_even b && is_even c) ≡ true
@@ -65,7 +65,8 @@ header_sound c w =
     let long : 32 ≤ length (spelling c) = omega (arith, length-spelling c) in
     header_passes (spelling c) (length (spelling c)) (le-ltb (length (spelling c)) 32 long) refl refl
     (ap has_even_lengths (header_again c) ∙ even_passes (length c.code) (length c.init) c.bss w.even_code w.even_init w.even_bss)
-    (ap (λ (h : Header). has_its_length h (length (spelling c))) (header_again c) ∙ length_passes (length (spelling c)) (total_of (header_of_component c)) (length-spelling c) w.short)
+    (ap (λ (h : Header). has_its_length h (length (spelling c))) (header_again c)
+    ∙ length_passes (length (spelling c)) (total_of (header_of_component c)) (length-spelling c) w.short)
 
 -- ---- the parts
 
@@ -88,8 +89,10 @@ raw_export_again c i e here =
     let front = header_bytes c ++ (c.code ++ c.init) in
     let back = flat_map reloc_bytes c.relocs in
     let rest = flat_map export_bytes c.exports ++ back in
-    let grouped : spelling c ≡ front ++ rest = ap (λ (x : List ℕ). header_bytes c ++ x) (sym (append_assoc c.code c.init rest)) ∙ sym (append_assoc (header_bytes c) (c.code ++ c.init) rest) in
-    let long : exports_at (header_of (spelling c)) ≡ length front = ap exports_at (header_again c) ∙ omega (arith, length-append (header_bytes c) (c.code ++ c.init), length-append c.code c.init) in
+    let grouped : spelling c ≡ front ++ rest = ap (λ (x : List ℕ). header_bytes c ++ x) (sym (append_assoc c.code c.init rest))
+    ∙ sym (append_assoc (header_bytes c) (c.code ++ c.init) rest) in
+    let long : exports_at (header_of (spelling c)) ≡ length front = ap exports_at (header_again c)
+    ∙ omega (arith, length-append (header_bytes c) (c.code ++ c.init), length-append c.code c.init) in
     ap (λ n. slice_range (spelling c) (n + 6 * i) (n + 6 * i + 6)) long
     ∙ ap (λ (x : List ℕ). slice_range x (length front + 6 * i) (length front + 6 * i + 6)) grouped
     ∙ entry_in export_bytes 6 (λ x. refl) c.exports front back i e here
@@ -151,7 +154,8 @@ symbol_above c w (suc i) e here =
     let former = get_or c.exports i e in
     let there : slice_get c.exports i ≡ Some former = slice_get-get_or c.exports i e (omega (arith, within)) in
     let rises = rises_next (λ (x : Export). x.symbol) (λ (x : Export). x.symbol + 1) 16 c.exports i former e (symbols_rise 16 c.exports w.export_order) there here in
-    let symbol : u16_at (raw_export (spelling c) i) 0 ≡ former.symbol = ap (λ (x : List ℕ). u16_at x 0) (raw_export_again c i former there) ∙ two former.symbol in
+    let symbol : u16_at (raw_export (spelling c) i) 0 ≡ former.symbol = ap (λ (x : List ℕ). u16_at x 0) (raw_export_again c i former there)
+    ∙ two former.symbol in
     ap (λ n. nat_lt n e.symbol) symbol ∙ lt-ltb former.symbol e.symbol (omega (arith, rises))
 
 -- nothing is wrong with export i
@@ -244,7 +248,8 @@ field_again c r is =
     let s = spelling c in
     let w = reloc_width r in
     let there = part_slice r.in_init s (length c.code) (length c.init) r.offset w (omega (arith, length-spelling c)) (end_in_part c r is) in
-    let parts = ap (λ (x : List ℕ). cond r.in_init x (slice_range s 32 (32 + length c.code))) (init_again c) ∙ ap (λ (x : List ℕ). cond r.in_init c.init x) (code_again c) in
+    let parts = ap (λ (x : List ℕ). cond r.in_init x (slice_range s 32 (32 + length c.code))) (init_again c)
+    ∙ ap (λ (x : List ℕ). cond r.in_init c.init x) (code_again c) in
     ap (λ (h : Header). let at = field_at h r in slice_range s at (at + w) ++ replicate (4 - w) 0) (header_again c)
     ∙ ap (λ (x : List ℕ). x ++ replicate (4 - w) 0) (sym there ∙ ap (λ (x : List ℕ). slice_range x r.offset (r.offset + w)) parts)
 
@@ -266,7 +271,8 @@ reloc_behind c w (suc i) r here =
     (end_in_part c former f) (end_in_part c r is) (widths (shape_of r.kind)).some rises
 
 -- checks that each pass, on a relocation that is what the bytes say
-passes : (h : Header) (before : Option Reloc) (i : ℕ) (raw field : List ℕ) (kind : RelocType) (r : Reloc) → reloc_with raw kind ≡ r → has_place_byte raw ≡ true → is_inside h r ≡ true → is_aligned r ≡ true
+passes : (h : Header) (before : Option Reloc) (i : ℕ) (raw field : List ℕ) (kind : RelocType) (r : Reloc) → reloc_with raw kind ≡ r
+    → has_place_byte raw ≡ true → is_inside h r ≡ true → is_aligned r ≡ true
     → is_behind before r ≡ true → has_target r ≡ true → is_clear kind field ≡ true → reloc_in h before i raw field (Some kind) ≡ Ok r
 passes h before i raw field kind r said byte inside aligned behind target clear =
     ap (λ (x : Reloc). cond (not (has_place h raw x)) (Err (RelocPlace i)) (cond (not (is_behind before x)) (Err (RelocOrder i))
@@ -274,7 +280,8 @@ passes h before i raw field kind r said byte inside aligned behind target clear 
     ∙ rw (byte, inside, aligned, behind, target, clear) refl
 
 -- the checks pass a relocation that the grammar allows
-check_reloc_again : (c : Component) (before : Option Reloc) (i : ℕ) (r : Reloc) (field : List ℕ) → IsReloc c r → is_behind before r ≡ true → is_clear r.kind field ≡ true
+check_reloc_again : (c : Component) (before : Option Reloc) (i : ℕ) (r : Reloc) (field : List ℕ) → IsReloc c r → is_behind before r ≡ true
+    → is_clear r.kind field ≡ true
     → check_reloc_of (header_of_component c) before i (reloc_bytes r) field ≡ Ok r
 check_reloc_again c before i r field is behind clear =
     let said = reloc_again r is.addend in

@@ -37,11 +37,21 @@ fn relocation_type(text: &str) -> Result<RelocType> {
 }
 
 /// The bytes of a field, patched or why not.
-fn shown(alloc: Global, kind: RelocType, s_plus_a: i64, place: i64, field: &mut [u8]) -> Result<String>
+fn shown(
+    alloc: Global,
+    kind: RelocType,
+    s_plus_a: i64,
+    place: i64,
+    field: &mut [u8],
+) -> Result<String>
     requires sum { IsNear s_plus_a }
     requires place { IsNear place }
 {
-    ensure!(field.len() == kind.width() as usize, "the field has {} bytes", kind.width());
+    ensure!(
+        field.len() == kind.width() as usize,
+        "the field has {} bytes",
+        kind.width()
+    );
     match patch_of(kind, s_plus_a, place) {
         Ok(patch) => {
             for i in 0..patch.width {

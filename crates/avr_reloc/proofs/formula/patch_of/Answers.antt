@@ -1,7 +1,9 @@
-use Rattle.std.proofs.Common.{rules, w64, SFits, sym, length, ◌≡◌, ap, ◌∙◌}
+use Rattle.std.proofs.Common.{rules, w64, SFits, sym, length, ◌≡◌, arith}
 use Rattle.std.proofs.lemmas.Int.{to_z-of_z}
 use Rattle.avr_reloc.specs.Field.{AreBytes}
-use Rattle.avr_reloc.proofs.Patched.{field_from_patch}
+use Rattle.avr_reloc.specs.Kind.{shape_of}
+use Rattle.avr_reloc.proofs.Patched.{field_from_patch, width_four}
+use Rattle.avr_reloc.proofs.Fixups.{byte_of_field}
 use Rattle.avr_reloc.proofs.Cleared.{keep_behind, set_behind}
 use Rattle.avr_reloc.proofs.formula.patch_of.Goals as goal
 
@@ -39,3 +41,12 @@ returns-clause-field c =
     let set_bytes : AreBytes c.spread.result = search rules in
     let p = returns-clause-patch c in
     field_from_patch c.args.t c.args.s_plus_a c.args.place _ _ (sym possible) four set_bytes p.keep p.set
+
+pub returns-clause-bytes : goal.returns-clause-bytes
+returns-clause-bytes c =
+    let keep_four : length c.keep.result ≡ 4 = search rules in
+    let four : length c.spread.result ≡ 4 = search rules in
+    let set_bytes : AreBytes c.spread.result = search rules in
+    let gives = returns-clause-field c in λ q old f old_bytes f_bytes wide same field i lt.
+    byte_of_field c.args.t c.args.s_plus_a c.args.place _ _ q old f i keep_four four set_bytes old_bytes f_bytes
+    (omega (arith, wide, width_four (shape_of c.args.t))) (gives q old old_bytes wide same) field (omega (arith, wide, lt))
