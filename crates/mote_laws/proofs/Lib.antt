@@ -1,0 +1,9 @@
+pub mod Kept
+pub mod Steps
+pub mod Programs
+pub mod Rows
+pub mod Runs
+pub mod Slots
+pub mod Stored
+pub mod Formatted
+pub mod Sets
