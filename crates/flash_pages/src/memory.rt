@@ -1,7 +1,7 @@
 //! A board in memory, whose calls fail and stop as a plan says.
 //!
 //! It keeps what each change took the place of. So what a cut may have left at any moment is told by undoing the changes, the newest first.
-ghost use Rattle.std.specs.Prelude.{◌≡◌, ◌≤◌, ◌<◌, ◌+◌, ◌*◌, ◌^◌, ◌++◌, [], ◌∷◌, length, reverse, slice_set, replicate, OnOk, OnErr, IfOk, IsTrue, IsSomeAnd, Some, All};
+ghost use Rattle.std.specs.Prelude.{◌≡◌, ◌↔◌, ◌≤◌, ◌<◌, ◌+◌, ◌++◌, [], ◌∷◌, length, slice_set, replicate, OnOk, OnErr, IfOk, IsTrue, IsSomeAnd, All};
 ghost use Rattle.flash_pages.specs.State.{AreBytes, IsPage, Prog, Ext, page_at};
 ghost use Rattle.flash_pages.specs.Log.{is_program};
 
@@ -187,7 +187,9 @@ fn fails(plan: &BoardPlan, calls: &mut u64, stopped: bool) -> bool {
 }
 
 // Whether the program after so many is the one with this number.
-fn is_next(number: u32, programs: u32) -> bool {
+fn is_next(number: u32, programs: u32) -> bool
+    ensures { IsTrue result ↔ (number ≡ programs + 1) }
+{
     number > 0 && number - 1 == programs
 }
 
