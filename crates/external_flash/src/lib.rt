@@ -39,7 +39,7 @@ pub enum Gate {
     /// The set of side B is to be copied into program flash.
     GoB,
 
-    /// Side B is the chosen side, else side A.
+    /// Where neither Go gate is open, the chosen side is side B if this gate is open, and side A if not.
     Sel,
 }
 
