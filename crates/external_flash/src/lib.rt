@@ -12,6 +12,9 @@ ghost use Rattle.external_flash.specs.Areas.{Differs, bytes_from};
 
 use flash_pages::{Board, Failed};
 
+#[cfg(test)]
+mod tests;
+
 /// The gates. The first stands on page 0 of the external flash, and each other on the page after the one before it.
 #[derive(Clone, Copy, Debug, PartialEq, Eq)]
 pub enum Gate {
@@ -36,7 +39,7 @@ pub enum Gate {
     /// The set of side B is to be copied into program flash.
     GoB,
 
-    /// Side B is the chosen side, else side A.
+    /// Where neither Go gate is open, the chosen side is side B if this gate is open, and side A if not.
     Sel,
 }
 
