@@ -1,5 +1,6 @@
 use Rattle.flash_pages.proofs.memory.MemoryBoardBoard.prog_program.Goals.{then-stops, else-stops}
-use Rattle.std.proofs.Common.{◌≡◌, ℕ, List, [], ap, arith}
+use Rattle.std.proofs.Common.{◌≡◌, ℕ, List, [], ap, sym, ◌∙◌, arith}
+use Rattle.std.proofs.lemmas.Bool.{false≢true}
 use Rattle.std.proofs.lemmas.List.{get_or_read}
 use Rattle.std.proofs.lemmas.Result.{on_ok_weaker, on_err_weaker}
 use Rattle.flash_pages.specs.State.{State, Prog}
@@ -32,6 +33,6 @@ returns-clause-ok c =
     let b = c.args.self.now in
     let was = get_or_read b.prog.items c.args.page c.index.result.now (omega (arith, b.prog_size)) c.index.ensures [] in
     let to_state : List (List ℕ) → State = λ e. record { prog = e; ext = b.ext.items; sent = b.sent.items } in
-    let bytes_are : c.if-stops.bytes ≡ c.args.from.now = elim c.if-stops.branch [ then-stops w ↦ absurd (c.if-stops-2.false w.if-stops.true) | else-stops w ↦ w.bytes-is ] in
+    let bytes_are : c.if-stops.bytes ≡ c.args.from.now = elim c.if-stops.branch [ then-stops w ↦ absurd (false≢true (sym c.if-stops-2.false ∙ w.if-stops.true)) | else-stops w ↦ w.bytes-is ] in
     programmed_result c.args.from.now (Prog c.args.page) _ _ _ _ _ c.if-stops.bytes _ _ _ _ (ProgHeld c.args.page c.index.result.now)
     bytes_are (c.replace-done.ensures.size, c.replace-done.ensures.bytes) (ap (ProgHeld c.args.page) was) (ap to_state (at_ok c.replace-done.result c.if-is_err.ensures.value c.replace-done.ensures.pages)) (at_ok c.replace-done.result c.if-is_err.ensures.value c.replace-done.ensures.log)
