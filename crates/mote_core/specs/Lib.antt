@@ -1,0 +1,3 @@
+pub mod Flashes
+pub mod Reading
+pub mod Running

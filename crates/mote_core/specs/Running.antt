@@ -1,0 +1,85 @@
+-- What a session does to its board, from the bytes that it reads.
+use Rattle.std.specs.Prelude.{◌≡◌, ◌≢◌, ℕ, ◌+◌, ◌<◌, ◌≤◌, List, [], ◌∷◌, ◌++◌, Bool, IsTrue, IsFalse, Option, None, Some, ◌==◌, ◌||◌, if◌then◌else◌, codes, length}
+use Rattle.flash_pages.specs.State.{State}
+use Rattle.flash_pages.specs.Board.{View, Rose}
+use Rattle.component_package.specs.Frames.{Frame, is_too_long, has_end, stream_of, OnlyLastEnds, IsPartial, Frames}
+use Rattle.component_package.specs.FirstMachine.{lines_of, after_frames}
+use Rattle.mote_core.specs.Flashes.{flash_of}
+
+-- ---- statuses
+
+-- the words are the one word `run`
+abbrev pub IsRun : List (List ℕ) → Type 0
+IsRun words = words ≡ codes "run" ∷ []
+
+-- the statuses that a session ends with
+abbrev pub is_status : ℕ → Bool
+is_status n = n == 0 || n == 2 || n == 3 || n == 4 || n == 5 || n == 7
+
+-- The status of a session that read these frames and this rest, so many frames in all: 0 after END or where the input ended between frames, 7 where a
+-- byte came after the last frame of a session, 3 after a head with too great a length, 2 where the input ended inside a frame.
+abbrev pub status_of : ℕ → List Frame → List ℕ → ℕ
+status_of count frames rest =
+    if has_end frames then 0 else
+    (if length rest == 0 then 0 else
+    (if count == 1000000 then 7 else
+    (if is_too_long rest then 3 else 2)))
+
+-- 4 comes only where flash faults rose and 5 only where line faults rose; with another status the count is as it was
+pub record TellsFaults (status : ℕ) (old new : View) : Type 0 where
+  pub flash : status ≡ 4 → Rose old.flash_faults new.flash_faults
+  pub flash_kept : status ≢ 4 → new.flash_faults ≡ old.flash_faults
+  pub line : status ≡ 5 → Rose old.line_faults new.line_faults
+  pub line_kept : status ≢ 5 → new.line_faults ≡ old.line_faults
+
+-- ---- a session and its parts
+
+-- all lines were sent, and both flashes are as the frames leave them
+pub record AllServed (s : State) (frames : List Frame) (owed : List ℕ) (x : State) : Type 0 where
+  pub sent : owed ≡ []
+  pub flash : flash_of x ≡ after_frames (flash_of s) frames
+
+-- all was served, the status is by the frames and the rest, and the input has ended where they say so
+pub record EndsWell (s : State) (count : ℕ) (frames : List Frame) (rest owed : List ℕ) (x : State) (left : List ℕ) (status : ℕ) : Type 0 where
+  pub served : AllServed s frames owed x
+  pub status_is : status ≡ status_of count frames rest
+  pub input : status ≡ 0 → IsFalse (has_end frames) → left ≡ []
+  pub cut : status ≡ 2 → left ≡ []
+
+-- what goes on has served all; what ended did so too, unless a fault ended it
+abbrev pub Outcome : Option ℕ → State → ℕ → List Frame → List ℕ → List ℕ → State → List ℕ → Type 0
+Outcome None s count frames rest owed x left = AllServed s frames owed x × (rest ≡ []) × IsFalse (has_end frames)
+Outcome (Some status) s count frames rest owed x left = status ≢ 4 → status ≢ 5 → EndsWell s count frames rest owed x left status
+
+-- Part of a session, from a state and the bytes left to others: the frames and the rest that it read, what is owed of their lines, and the status if the
+-- session ended. The count is of the frames of the whole session so far.
+pub record Serves (count : ℕ) (s : State) (l : List ℕ) (frames : List Frame) (rest owed : List ℕ) (x : State) (left : List ℕ) (status : Option ℕ) : Type 0 where
+  pub few : count ≤ 1000000
+  pub read : l ≡ stream_of frames ++ (rest ++ left)
+  pub each : OnlyLastEnds frames
+  pub partial : IsPartial rest
+  pub after_end : IsTrue (has_end frames) → rest ≡ []
+  pub lines : s.sent ++ lines_of (flash_of s) frames ≡ x.sent ++ owed
+  pub outcome : Outcome status s count frames rest owed x left
+
+-- one turn of a session that had served so many frames: it reads one frame at most, and one if the session goes on
+abbrev pub Turns : ℕ → State → List ℕ → View → Option ℕ → Type 0
+Turns served s l new status = (frames : List Frame) × (rest : List ℕ) × (owed : List ℕ) × (x : State) × (left : List ℕ)
+    × (new.state ≡ Some x) × (new.left ≡ Some left) × Serves (served + length frames) s l frames rest owed x left status × (status ≡ None → length frames ≡ 1)
+
+-- A session from a state and the bytes left. What it read is whole frames and a rest, what it sent is their lines but for those owed, and where no
+-- count of faults rose it ended well.
+pub record Runs (s : State) (l : List ℕ) (old new : View) (status : ℕ) : Type 0 where
+  pub got : List ℕ
+  pub frames : List Frame
+  pub rest : List ℕ
+  pub owed : List ℕ
+  pub end : State
+  pub left : List ℕ
+  pub told : new.state ≡ Some end
+  pub told_left : new.left ≡ Some left
+  pub read : l ≡ got ++ left
+  pub few : length frames ≤ 1000000
+  pub whole : Frames got frames rest
+  pub lines : s.sent ++ lines_of (flash_of s) frames ≡ end.sent ++ owed
+  pub ends : ¬ Rose old.flash_faults new.flash_faults → ¬ Rose old.line_faults new.line_faults → EndsWell s (length frames) frames rest owed end left status
