@@ -1,7 +1,8 @@
--- How calls on the line follow on each other.
-use Rattle.std.proofs.Common.{◌≡◌, inl, inr, ⊎_elim, ℕ, Some, refl, ◌∙◌, arith}
-use Rattle.flash_pages.specs.State.{State}
-use Rattle.flash_pages.specs.Board.{View, UsesLine}
+-- How calls follow on each other, and what they keep.
+use Rattle.std.proofs.Common.{◌≡◌, inl, inr, ⊎_elim, ℕ, Some, refl, ◌∙◌, ap, arith}
+use Rattle.flash_pages.specs.State.{State, Place, MayHold}
+use Rattle.flash_pages.specs.Board.{View, UsesLine, UsesFlash}
+use Rattle.flash_pages.proofs.Pages.{sent_kept}
 
 -- before the first call
 pub line_starts : (v : View) → UsesLine (λ s x. x ≡ s) v v
@@ -34,3 +35,12 @@ line_then old mid new first same second = record {
   line = omega (arith, first.line, second.line);
   flash = second.flash ∙ first.flash;
 }
+
+-- before the first call on a flash
+pub flash_starts : (v : View) → UsesFlash v v
+flash_starts v = record { untold = λ none. none; left = refl; line = refl; flash = omega arith }
+
+-- a program of a page sends nothing
+pub sent_as_before : (needed : State → Type 0) (place : Place) (s x : State) → MayHold needed place s x → x.sent ≡ s.sent
+sent_as_before needed place s x (inl same) = ap (λ (y : State). y.sent) same
+sent_as_before needed place s x (inr spoilt) = ap (λ (y : State). y.sent) spoilt.1.is ∙ sent_kept s place spoilt.1.bytes

@@ -1,16 +1,16 @@
 -- The bytes of slot 0 by its pages, and pages that are filled up with 0xFF.
-use Rattle.std.proofs.Common.{◌≡◌, ℕ, zero, suc, ◌+◌, ◌*◌, ◌-◌, ◌<◌, ◌≤◌, min, List, [], ◌∷◌, ◌++◌, All, Some, length, take, drop, replicate, slice_get, slice_index_or, refl, sym, ap, ◌∙◌, arith, append_assoc, subst, inl, inr, zero-add, slice_set, add-one, Bool, true, false, ◌==◌, Result, Ok}
+use Rattle.std.proofs.Common.{◌≡◌, ℕ, zero, suc, ◌+◌, ◌*◌, ◌-◌, ◌<◌, ◌≤◌, min, List, [], ◌∷◌, ◌++◌, All, Some, length, take, drop, replicate, slice_index_or, refl, sym, ap, ◌∙◌, arith, append_assoc, subst, inl, inr, zero-add, slice_set, add-one, true, false, Option, None}
 use Rattle.std.specs.List.{concat}
 use Rattle.std.proofs.lemmas.List.{take-append-le, drop-append-le, length-take, length-take-le, length-drop, drop-drop, drop-take, drop-replicate, take-replicate, take-take, drop_all, take_all, take_at, set_at, length-append, get_or-drop, get_or-take, append-nil}
 use Rattle.std.proofs.lemmas.List.Elements.{All-head, All-tail, All-take, All-drop}
-use Rattle.std.proofs.lemmas.Option.{get_or_from_slice_get}
 use Rattle.std.proofs.lemmas.Bool.{cases_lt}
 use Rattle.std.proofs.Math.Seq.{take-append-add, drop-append_seam, drop-append-add, drop-cons}
 use Rattle.flash_pages.specs.State.{State, Ext, IsPage, IsState, page_at}
 use Rattle.component_package.specs.declared.part.Header.{Header}
 use Rattle.component_package.specs.declared.fault.PackageFault.{PackageFault}
-use Rattle.component_package.specs.declared.answer.Answer.TheVariants.{Booted, NotYet}
-use Rattle.component_package.specs.FirstMachine.{Flash, slot_of, filled_page, filled_pages}
+use Rattle.component_package.specs.declared.answer.Answer.TheVariants.{BadPackage, Booted, NotYet}
+use Rattle.component_package.specs.Reading.{header_of, header_fault, total_of, number_of_fault}
+use Rattle.component_package.specs.FirstMachine.{Flash, slot_of, slot_head, slot_fault, slot_code, filled_page, filled_pages, boot_answer, is_plain}
 use Rattle.mote_core.specs.Flashes.{flash_of}
 
 -- page j of pages that are joined
@@ -184,3 +184,33 @@ head_is s page sized len e =
     let p : drop (256 * 0) (slot_of (flash_of s)) ≡ page ++ drop (256 * (0 + 1)) (slot_of (flash_of s)) = slot_at s 0 page sized (omega arith) e in
     let q : take 32 (drop (256 * 0) (slot_of (flash_of s))) ≡ take 32 (page ++ drop (256 * (0 + 1)) (slot_of (flash_of s))) = ap (λ (xs : List ℕ). take 32 xs) p in
     q ∙ take-append-le 32 page (drop (256 * (0 + 1)) (slot_of (flash_of s))) (omega arith)
+
+-- what is wrong with the header that was read is what is wrong with the slot's
+fault_is : (flash : Flash) (raw : List ℕ) (h : Header) (n : ℕ) → raw ≡ slot_head flash → h ≡ header_of raw → n ≡ total_of h → header_fault raw n ≡ slot_fault flash
+fault_is flash raw h n a b d = rw (d, b, a) refl
+
+-- the answer to a boot, by what the header says
+module _ (flash : Flash) (raw : List ℕ) (h : Header) (n : ℕ) (raw_is : raw ≡ slot_head flash) (fields : h ≡ header_of raw) (total : n ≡ total_of h) where
+  pub boot_bad : (fault : PackageFault) (number : ℕ) → Some fault ≡ header_fault raw n → number ≡ number_of_fault fault → BadPackage 0 number ≡ boot_answer (slot_fault flash) (header_of (slot_head flash))
+  boot_bad fault number is e = ap (λ (k : ℕ). BadPackage 0 k) e ∙ ap (λ (o : Option PackageFault). boot_answer o (header_of (slot_head flash))) (is ∙ fault_is flash raw h n raw_is fields total)
+
+  plain : (k : Header) → true ≡ is_plain k → Booted 1 ≡ boot_answer None k
+  plain k e = rw (← e) refl
+
+  more : (k : Header) → false ≡ is_plain k → NotYet ≡ boot_answer None k
+  more k e = rw (← e) refl
+
+  same : (k : Header) → k ≡ header_of raw → k ≡ header_of (slot_head flash)
+  same k e = e ∙ ap header_of raw_is
+
+  pub boot_plain : (k : Header) → k ≡ header_of raw → None ≡ header_fault raw n → true ≡ is_plain k → Booted 1 ≡ boot_answer (slot_fault flash) (header_of (slot_head flash))
+  boot_plain k e is p = plain k p ∙ (ap (λ (j : Header). boot_answer None j) (same k e) ∙ ap (λ (o : Option PackageFault). boot_answer o (header_of (slot_head flash))) (is ∙ fault_is flash raw h n raw_is fields total))
+
+  pub boot_more : (k : Header) → k ≡ header_of raw → None ≡ header_fault raw n → false ≡ is_plain k → NotYet ≡ boot_answer (slot_fault flash) (header_of (slot_head flash))
+  boot_more k e is p = more k p ∙ (ap (λ (j : Header). boot_answer None j) (same k e) ∙ ap (λ (o : Option PackageFault). boot_answer o (header_of (slot_head flash))) (is ∙ fault_is flash raw h n raw_is fields total))
+
+  -- program flash after a boot
+  pub boot_writes : (s : State) (k : Header) → flash ≡ flash_of s → k ≡ header_of raw → Some (record s { prog = filled_pages 480 (take k.code (drop 32 (slot_of (flash_of s)))) }) ≡ Some (record s { prog = filled_pages 480 (slot_code (flash_of s)) })
+  boot_writes s k f e =
+      let is : k ≡ header_of (slot_head (flash_of s)) = same k e ∙ ap (λ (x : Flash). header_of (slot_head x)) f in
+      ap (λ (j : Header). Some (record s { prog = filled_pages 480 (take j.code (drop 32 (slot_of (flash_of s)))) })) is
