@@ -1,6 +1,6 @@
 -- Lists of bytes that come and go in pieces, and lines of numbers.
 use Rattle.std.proofs.Common.{◌≡◌, ℕ, ◌+◌, ◌*◌, ◌/◌, ◌%◌, ◌-◌, ◌<◌, ◌≤◌, List, [], ◌∷◌, ◌++◌, length, take, drop, refl, sym, ap, ◌∙◌, append_assoc, arith, decimal, slice_index_or, inr}
-use Rattle.std.proofs.lemmas.List.{take-append-le, length-take, length-take-le, length-drop, take-append-drop, append-nil, take_more}
+use Rattle.std.proofs.lemmas.List.{take-append-le, length-take, length-take-le, length-drop, take-append-drop, append-nil, take_more, take_all}
 use Rattle.std.proofs.lemmas.Grind.{common_steps}
 use Rattle.std.proofs.Math.Seq.{take-append-add, take-append_seam, take-length, take-add}
 use borrow.Rule.Slice.PartMut.{put_mid, post_of}
@@ -93,3 +93,7 @@ still_owed s0 s2 from k e =
 -- what was taken, and what is left
 pub taken : (n : ℕ) (ys l : List ℕ) → take n ys ≡ take n l → l ≡ take n ys ++ drop n l
 taken n ys l same = rw same (sym (take-append-drop n l))
+
+-- all bytes were sent
+pub all_sent : (s0 from : List ℕ) (k : ℕ) → length from ≤ k → s0 ++ from ≡ (s0 ++ take k from) ++ []
+all_sent s0 from k h = sym (append-nil (s0 ++ take k from) ∙ ap (λ (xs : List ℕ). s0 ++ xs) (take_all k from h))
