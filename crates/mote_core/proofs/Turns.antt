@@ -3,7 +3,7 @@ use Rattle.std.proofs.Common.{◌≡◌, ◌≢◌, ℕ, ◌+◌, ◌<◌, ◌�
 use Rattle.std.proofs.lemmas.List.{append-nil, length-append}
 use Rattle.std.proofs.lemmas.Bool.Decides.{nat_tests}
 use Rattle.flash_pages.specs.State.{State}
-use Rattle.flash_pages.specs.Board.{View}
+use Rattle.flash_pages.specs.Board.{View, Rose}
 use Rattle.component_package.specs.Lines.{line_of}
 use Rattle.component_package.specs.Frames.{Frame, IsFrame, frame_bytes, stream_of, OnlyLastEnds, has_end, is_end, IsPartial, is_too_long}
 use Rattle.component_package.specs.FirstMachine.{Flash, answer_of, after_frames, after_frame, after_answer, lines_of}
@@ -305,4 +305,13 @@ begins s l = record {
   after_end = λ q. absurd (let x : ⊥ = cc in x);
   lines = refl;
   outcome = (record { sent = refl; flash = refl }, refl, refl);
+}
+
+-- the faults of what came after a part without faults
+pub faults_then : (status : ℕ) (old mid new : View) → mid.flash_faults ≡ old.flash_faults → mid.line_faults ≡ old.line_faults → TellsFaults status mid new → TellsFaults status old new
+faults_then status old mid new flash line t = record {
+  flash = λ four. subst (λ (n : ℕ). Rose n new.flash_faults) flash (t.flash four);
+  flash_kept = λ other. t.flash_kept other ∙ flash;
+  line = λ five. subst (λ (n : ℕ). Rose n new.line_faults) line (t.line five);
+  line_kept = λ other. t.line_kept other ∙ line;
 }

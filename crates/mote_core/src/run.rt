@@ -1,6 +1,6 @@
 //! Sessions, and the top call of the mote.
 
-ghost use Rattle.std.specs.Prelude.{◌≡◌, ◌≢◌, ◌+◌, ◌<◌, ◌≤◌, ◌↔◌, [], List, ℕ, IsTrue, OnOk, OnErr, Some, None, unwrap_or};
+ghost use Rattle.std.specs.Prelude.{◌≡◌, ◌≢◌, ◌+◌, ◌<◌, ◌≤◌, ◌↔◌, [], List, ℕ, IsTrue, OnOk, OnErr, Some, None, codes, unwrap_or};
 ghost use Rattle.flash_pages.specs.State.{State};
 ghost use Rattle.flash_pages.specs.Board.{Rose};
 ghost use Rattle.component_package.specs.Lines.{line_of};
@@ -107,7 +107,13 @@ pub fn run_session<B: Board>(board: &mut B) -> u8
 fn is_run(words: &[Text]) -> bool
     ensures { IsTrue result ↔ IsRun words.now }
 {
-    words.len() == 1 && words[0].as_str() == "run"
+    words.len() == 1 && is_run_word(words[0].as_str())
+}
+
+fn is_run_word(word: &str) -> bool
+    ensures { IsTrue result ↔ (word.now ≡ codes "run") }
+{
+    word == "run"
 }
 
 /// The top call: does the command of these words on the board, and gives its status.
