@@ -20,7 +20,7 @@ use Rattle.mote_core.proofs.Rows.{ended-is_end, is_end-ended}
 -- no whole frame was read
 pub read_none : (served : ℕ) (s : State) (l rest : List ℕ) (new : View) (left : List ℕ) (status : ℕ)
     → new.state ≡ Some s → new.left ≡ Some left → served ≤ 1000000 → l ≡ rest ++ left → IsPartial rest
-    → (status ≢ 4 → status ≢ 5 → (status ≡ status_of served [] rest) × (status ≡ 0 → left ≡ []) × (status ≡ 2 → left ≡ []))
+    → (status ≢ 4 → status ≢ 5 → (status ≡ status_of served [] rest) × (status ≡ 0 → left ≡ []) × (status ≡ 2 → left ≡ []) × (status ≡ 7 → length rest ≡ 1))
     → Turns served s l new (Some status)
 read_none served s l rest new left status told told_left room e p h = (
   [],
@@ -37,7 +37,7 @@ read_none served s l rest new left status told told_left room e p h = (
     partial = p;
     after_end = λ q. absurd (let x : ⊥ = cc in x);
     lines = refl;
-    outcome = λ a b. let k = h a b in record { served = record { sent = refl; flash = refl }; status_is = rw add-zero k.0; input = λ z _. k.1 z; cut = k.2 };
+    outcome = λ a b. let k = h a b in record { served = record { sent = refl; flash = refl }; status_is = rw add-zero k.0; input = λ z _. k.1 z; cut = k.2; budget = k.3 };
   },
   λ q. absurd (let x : ⊥ = cc in x),
 )
@@ -114,6 +114,7 @@ outcome_then (Some status) count s fs x gs rest owed y left e none o = λ a b.
       status_is = h.status_is ∙ sym (status_same count (fs ++ gs) gs rest ends);
       input = λ z n. h.input z (sym ends ∙ n);
       cut = h.cut;
+      budget = h.budget;
     }
 
 -- one part of a session after another
@@ -183,24 +184,24 @@ module _ (s : State) (l : List ℕ) (new : View) (told : new.state ≡ Some s) w
   stops InputEnd old_session session payload status e v few r =
       let zero : 0 ≡ status = some_inj 0 status e in
       subst (λ (n : ℕ). Turns (served_of old_session) s l new (Some n)) zero
-      (read_none (served_of old_session) s l [] new r.1 0 told r.2 few (r.3.0 ∙ sym r.3.1) tt (λ _ _. (refl, (λ _. r.3.1), (λ _. r.3.1))))
+      (read_none (served_of old_session) s l [] new r.1 0 told r.2 few (r.3.0 ∙ sym r.3.1) tt (λ _ _. (refl, (λ _. r.3.1), (λ _. r.3.1), (λ z. absurd (omega arith)))))
   stops CutFrame old_session session payload status e v few r =
       let two : 2 ≡ status = some_inj 2 status e in
       let whole : l ≡ r.0 ++ r.1 = r.3.0 ∙ (sym (append-nil r.0) ∙ ap (λ (xs : List ℕ). r.0 ++ xs) (sym r.3.1)) in
       subst (λ (n : ℕ). Turns (served_of old_session) s l new (Some n)) two
       (read_none (served_of old_session) s l r.0 new r.1 2 told r.2 few whole r.3.4
-      (λ _ _. (status_cut (served_of old_session) r.0 (not_empty r.0 r.3.2) (is_no_number (served_of old_session) 1000000 v.0) r.3.3, (λ _. r.3.1), (λ _. r.3.1))))
+      (λ _ _. (status_cut (served_of old_session) r.0 (not_empty r.0 r.3.2) (is_no_number (served_of old_session) 1000000 v.0) r.3.3, (λ _. r.3.1), (λ _. r.3.1), (λ z. absurd (omega arith)))))
   stops (TooLong n) old_session session payload status e v few r =
       let three : 3 ≡ status = some_inj 3 status e in
       subst (λ (n : ℕ). Turns (served_of old_session) s l new (Some n)) three
       (read_none (served_of old_session) s l r.0 new r.1 3 told r.2 few r.3.0 r.3.4
-      (λ _ _. (status_long (served_of old_session) r.0 (not_empty r.0 r.3.2) (is_no_number (served_of old_session) 1000000 v.0) r.3.3, (λ z. absurd (omega arith)), (λ z. absurd (omega arith)))))
+      (λ _ _. (status_long (served_of old_session) r.0 (not_empty r.0 r.3.2) (is_no_number (served_of old_session) 1000000 v.0) r.3.3, (λ z. absurd (omega arith)), (λ z. absurd (omega arith)), (λ z. absurd (omega arith)))))
   stops Budget old_session session payload status e v few r =
       let seven : 7 ≡ status = some_inj 7 status e in
       let one = single r.0 r.3.1 in
       subst (λ (n : ℕ). Turns (served_of old_session) s l new (Some n)) seven
       (read_none (served_of old_session) s l r.0 new r.1 7 told r.2 few r.3.0 one.0
-      (λ _ _. (status_budget (served_of old_session) r.0 one.1 (is_number (served_of old_session) 1000000 (omega arith)), (λ z. absurd (omega arith)), (λ z. absurd (omega arith)))))
+      (λ _ _. (status_budget (served_of old_session) r.0 one.1 (is_number (served_of old_session) 1000000 (omega arith)), (λ z. absurd (omega arith)), (λ z. absurd (omega arith)), (λ _. r.3.1))))
 
   -- a line fault ended the reading
   pub lost : (served : ℕ) → served ≤ 1000000 → (rest : List ℕ) × (left : List ℕ) × (new.left ≡ Some left) × ((l ≡ rest ++ left) × IsPartial rest) → Turns served s l new (Some 5)
@@ -225,7 +226,7 @@ module _ (served : ℕ) (s : State) (l : List ℕ) (f : Frame) (left : List ℕ)
       let has : has_end (f ∷ []) ≡ true = rw end refl in
       let same : new.state ≡ Some s = rw is_ended at told in
       read_one served s l f [] new s left (Some 0) same told_left room frame read (rw ended refl)
-      (λ _ _. record { served = record { sent = refl; flash = rw ended refl }; status_is = rw has refl; input = λ _ n. absurd (let q : true ≡ false = sym has ∙ n in cc); cut = λ z. absurd (omega arith) })
+      (λ _ _. record { served = record { sent = refl; flash = rw ended refl }; status_is = rw has refl; input = λ _ n. absurd (let q : true ≡ false = sym has ∙ n in cc); cut = λ z. absurd (omega arith); budget = λ z. absurd (omega arith) })
 
   module _ (a : Answer) (new : View) (x : State) (owed : List ℕ) (is : a ≡ answer_of (flash_of s) f) (told : new.state ≡ Some x) (told_left : new.left ≡ Some left)
       (sent : SendsBut owed (line_of a) (with_flash s (after_answer a f.payload (flash_of s))) x) where

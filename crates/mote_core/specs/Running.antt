@@ -39,12 +39,13 @@ pub record AllServed (s : State) (frames : List Frame) (owed : List ℕ) (x : St
   pub sent : owed ≡ []
   pub flash : flash_of x ≡ after_frames (flash_of s) frames
 
--- all was served, the status is by the frames and the rest, and the input has ended where they say so
+-- all was served, the status is by the frames and the rest, and the input has ended where they say so; one byte alone is read past the last frame of a session
 pub record EndsWell (s : State) (count : ℕ) (frames : List Frame) (rest owed : List ℕ) (x : State) (left : List ℕ) (status : ℕ) : Type 0 where
   pub served : AllServed s frames owed x
   pub status_is : status ≡ status_of count frames rest
   pub input : status ≡ 0 → IsFalse (has_end frames) → left ≡ []
   pub cut : status ≡ 2 → left ≡ []
+  pub budget : status ≡ 7 → length rest ≡ 1
 
 -- what goes on has served all; what ended did so too, unless a fault ended it
 abbrev pub Outcome : Option ℕ → State → ℕ → List Frame → List ℕ → List ℕ → State → List ℕ → Type 0
