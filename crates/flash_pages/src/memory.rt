@@ -1,4 +1,6 @@
-//! A board in memory, whose calls fail and stop as a plan says. It keeps what each change took the place of, so that its past can be told.
+//! A board in memory, whose calls fail and stop as a plan says.
+//!
+//! It keeps what each change took the place of. So what a cut may have left at any moment is told by undoing the changes, the newest first.
 ghost use Rattle.std.specs.Prelude.{◌≡◌, ◌≤◌, ◌<◌, ◌+◌, ◌*◌, ◌^◌, ◌++◌, [], ◌∷◌, length, reverse, slice_set, replicate, OnOk, OnErr, IfOk, IsTrue, IsSomeAnd, Some, All};
 ghost use Rattle.flash_pages.specs.State.{AreBytes, IsPage, Prog, Ext, page_at};
 ghost use Rattle.flash_pages.specs.Log.{is_program};
@@ -185,7 +187,7 @@ fn is_next(number: u32, programs: u32) -> bool {
     number > 0 && number - 1 == programs
 }
 
-// Puts other bytes into a page, and keeps what they took the place of.
+// Puts other bytes into a page, and keeps what they took the place of. Where there is no room for that, nothing is done.
 fn replace(
     pages: &mut Vec<[u8; 256]>,
     log: &mut ChangeLog,
@@ -210,7 +212,7 @@ fn replace(
     Ok(())
 }
 
-// Sends a piece, and keeps how much was sent before it.
+// Sends a piece, and keeps how much was sent before it. Where there is no room for that, nothing is done.
 fn append(sent: &mut Vec<u8>, log: &mut ChangeLog, piece: &[u8]) -> Result<(), Failed>
     ensures sent { OnOk result (sent.new.items ≡ sent.old.items ++ piece.now) }
     ensures log { OnOk result (log.new.changes.items ≡ log.old.changes.items ++ Change.SentSoFar (length sent.old.items) ∷ []) }
@@ -250,9 +252,12 @@ impl Board for MemoryBoard {
         let stops = is_next(self.plan.stop_at, self.log.program_count());
         let bytes = if stops { self.plan.spoil } else { *from };
         let change = Change::ExtHeld(page, self.ext[page as usize]);
-        let done = replace(&mut self.ext, &mut self.log, page, &bytes, change);
-        if stops || done.is_err() {
-            self.stopped = stops;
+        if replace(&mut self.ext, &mut self.log, page, &bytes, change).is_err() {
+            self.flash_faults = raised(self.flash_faults);
+            return Err(Failed);
+        }
+        if stops {
+            self.stopped = true;
             self.flash_faults = raised(self.flash_faults);
             return Err(Failed);
         }
@@ -276,9 +281,12 @@ impl Board for MemoryBoard {
         let stops = is_next(self.plan.stop_at, self.log.program_count());
         let bytes = if stops { self.plan.spoil } else { *from };
         let change = Change::ProgHeld(page, self.prog[page as usize]);
-        let done = replace(&mut self.prog, &mut self.log, page, &bytes, change);
-        if stops || done.is_err() {
-            self.stopped = stops;
+        if replace(&mut self.prog, &mut self.log, page, &bytes, change).is_err() {
+            self.flash_faults = raised(self.flash_faults);
+            return Err(Failed);
+        }
+        if stops {
+            self.stopped = true;
             self.flash_faults = raised(self.flash_faults);
             return Err(Failed);
         }
