@@ -7,6 +7,8 @@ mod line;
 mod run;
 mod serving;
 mod session;
+#[cfg(test)]
+mod tests;
 
 pub use component_package::Answer;
 pub use line::write_line;
