@@ -1,8 +1,8 @@
 -- How calls follow on each other, and what they keep.
-use Rattle.std.proofs.Common.{◌≡◌, inl, inr, ⊎_elim, ℕ, Some, refl, ◌∙◌, ap, arith}
-use Rattle.flash_pages.specs.State.{State, Place, MayHold}
+use Rattle.std.proofs.Common.{◌≡◌, inl, inr, ⊎_elim, ℕ, List, false, refl, ◌∙◌, arith}
+use Rattle.flash_pages.specs.State.{State, Place, Prog, Ext, OnlyPages, page_at}
 use Rattle.flash_pages.specs.Board.{View, UsesLine, UsesFlash}
-use Rattle.flash_pages.proofs.Pages.{sent_kept}
+use Rattle.mote_core.specs.Flashes.{may_change}
 
 -- before the first call
 pub line_starts : (v : View) → UsesLine (λ s x. x ≡ s) v v
@@ -40,7 +40,10 @@ line_then old mid new first same second = record {
 pub flash_starts : (v : View) → UsesFlash v v
 flash_starts v = record { untold = λ none. none; left = refl; line = refl; flash = omega arith }
 
--- a program of a page sends nothing
-pub sent_as_before : (needed : State → Type 0) (place : Place) (s x : State) → MayHold needed place s x → x.sent ≡ s.sent
-sent_as_before needed place s x (inl same) = ap (λ (y : State). y.sent) same
-sent_as_before needed place s x (inr spoilt) = ap (λ (y : State). y.sent) spoilt.1.is ∙ sent_kept s place spoilt.1.bytes
+-- a state whose program flash alone differs
+pub only_prog : (s : State) (prog : List (List ℕ)) → OnlyPages (may_change 5) s (record s { prog = prog })
+only_prog s prog = record { sent = refl; page = kept }
+  where
+    kept : (place : Place) → may_change 5 place ≡ false → page_at (record s { prog = prog }) place ≡ page_at s place
+    kept (Prog page) other = absurd (let q : ⊥ = cc in q)
+    kept (Ext page) other = refl

@@ -6,7 +6,7 @@ ghost use Rattle.flash_pages.specs.Board.{UsesFlash, Rose};
 ghost use Rattle.component_package.specs.Numbers.{u16_at};
 ghost use Rattle.component_package.specs.Reading.{header_of};
 ghost use Rattle.component_package.specs.FirstMachine.{answer_of, after_answer, piece_answer, boot_answer, is_plain, slot_fault, slot_head, filled_page, filled_pages, slot_of};
-ghost use Rattle.mote_core.specs.Flashes.{flash_of, with_flash, KeepsSent};
+ghost use Rattle.mote_core.specs.Flashes.{flash_of, with_flash, may_change, KeepsBut};
 
 use component_package::areas::{SLOT_PAGES, SLOTS};
 use component_package::{Answer, Header, read_header};
@@ -58,7 +58,7 @@ fn serve_piece<B: Board>(board: &mut B, payload: &[u8]) -> Result<Answer, Failed
     ensures answer { IfOk result (λ a. a ≡ piece_answer payload.now) }
     ensures state { IfOk result (λ a. (s : State) → (B.view board.old).state ≡ Some s
         → (B.view board.new).state ≡ Some (with_flash s (after_answer a payload.now (flash_of s)))) }
-    ensures sent { KeepsSent (B.view board.old) (B.view board.new) }
+    ensures kept { KeepsBut (may_change 2) (B.view board.old) (B.view board.new) }
     ensures uses { UsesFlash (B.view board.old) (B.view board.new) }
     ensures no_fault { OnOk result ((B.view board.new).flash_faults ≡ (B.view board.old).flash_faults) }
     ensures failed { OnErr result (Rose (B.view board.old).flash_faults (B.view board.new).flash_faults) }
@@ -122,7 +122,7 @@ fn copy_code<B: Board>(board: &mut B, code: u16) -> Result<(), Failed>
     requires { code ≤ 9952 }
     ensures state { OnOk result ((s : State) → (B.view board.old).state ≡ Some s
         → (B.view board.new).state ≡ Some (record s { prog = filled_pages 480 (take code (drop 32 (slot_of (flash_of s)))) })) }
-    ensures sent { KeepsSent (B.view board.old) (B.view board.new) }
+    ensures kept { KeepsBut (may_change 5) (B.view board.old) (B.view board.new) }
     ensures uses { UsesFlash (B.view board.old) (B.view board.new) }
     ensures no_fault { OnOk result ((B.view board.new).flash_faults ≡ (B.view board.old).flash_faults) }
     ensures failed { OnErr result (Rose (B.view board.old).flash_faults (B.view board.new).flash_faults) }
@@ -183,7 +183,7 @@ fn serve_boot<B: Board>(board: &mut B) -> Result<Answer, Failed>
         → a ≡ boot_answer (slot_fault (flash_of s)) (header_of (slot_head (flash_of s)))) }
     ensures state { IfOk result (λ a. (s : State) → (B.view board.old).state ≡ Some s
         → (B.view board.new).state ≡ Some (with_flash s (after_answer a [] (flash_of s)))) }
-    ensures sent { KeepsSent (B.view board.old) (B.view board.new) }
+    ensures kept { KeepsBut (may_change 5) (B.view board.old) (B.view board.new) }
     ensures uses { UsesFlash (B.view board.old) (B.view board.new) }
     ensures no_fault { OnOk result ((B.view board.new).flash_faults ≡ (B.view board.old).flash_faults) }
     ensures failed { OnErr result (Rose (B.view board.old).flash_faults (B.view board.new).flash_faults) }
@@ -215,7 +215,7 @@ pub fn serve_one<B: Board>(board: &mut B, kind: u8, payload: &[u8]) -> Result<An
         → a ≡ answer_of (flash_of s) (record { kind = kind; payload = payload.now })) }
     ensures state { IfOk result (λ a. (s : State) → (B.view board.old).state ≡ Some s
         → (B.view board.new).state ≡ Some (with_flash s (after_answer a payload.now (flash_of s)))) }
-    ensures sent { KeepsSent (B.view board.old) (B.view board.new) }
+    ensures kept { KeepsBut (may_change kind) (B.view board.old) (B.view board.new) }
     ensures uses { UsesFlash (B.view board.old) (B.view board.new) }
     ensures no_fault { OnOk result ((B.view board.new).flash_faults ≡ (B.view board.old).flash_faults) }
     ensures failed { OnErr result (Rose (B.view board.old).flash_faults (B.view board.new).flash_faults) }

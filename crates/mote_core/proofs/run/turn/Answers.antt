@@ -33,8 +33,8 @@ returns-in_default-clause-turns g c s l told told_left =
     let r = framed c.in-Ok-Frame.field-0 c.in-Ok-Frame.kind _ _ (g.B.Board.view c.next_frame.new.board) c.in-Ok-Frame.field-0-is (e.left l told_left) in
     let room = rw c.in-Ok-Frame.field-0-is at e.served in
     let d = c.in_default.ensures in
-    let kept = d.sent s (e.state ∙ told) in
-    fault_serving (served_of c.args.session.now) s l _ r.0 room.0 r.2 r.3 (g.B.Board.view c.serve_one.new.board) kept.0 kept.1 (d.uses.left ∙ r.1) kept.2
+    let kept = d.kept s (e.state ∙ told) in
+    fault_serving (served_of c.args.session.now) s l _ r.0 room.0 r.2 r.3 (g.B.Board.view c.serve_one.new.board) kept.0 kept.1 (d.uses.left ∙ r.1) kept.2.sent
 
 pub returns-in-Ended-clause-turns : goal.returns-in-Ended-clause-turns
 returns-in-Ended-clause-turns g c s l told told_left =

@@ -2,8 +2,9 @@ use Rattle.std.proofs.Common.{ap, ◌∙◌, refl, ◌≡◌, ◌<◌, ◌*◌, 
 use Rattle.flash_pages.specs.State.{State, Prog, always}
 use Rattle.flash_pages.proofs.Runs.{uses_uses}
 use Rattle.component_package.specs.FirstMachine.{slot_of, filled_page, filled_pages}
-use Rattle.mote_core.specs.Flashes.{flash_of}
-use Rattle.mote_core.proofs.Calls.{flash_starts, sent_as_before}
+use Rattle.flash_pages.proofs.Pages.{only_programs}
+use Rattle.mote_core.specs.Flashes.{flash_of, may_change}
+use Rattle.mote_core.proofs.Calls.{flash_starts, only_prog}
 use Rattle.mote_core.proofs.Slots.{page_written, none_written, all_written, slot_same}
 use Rattle.mote_core.proofs.serving.copy_code.Goals as goal
 
@@ -30,15 +31,15 @@ loop-at-preserved g c = record {
   fault = c.in-Ok-prog_program.ensures.ok.flash ∙ (c.in-Ok.ensures.no_fault ∙ c.loop-at.invariant.fault);
 }
 
-pub returns-in_default-clause-sent : goal.returns-in_default-clause-sent
-returns-in_default-clause-sent g c s told = (_, c.in_default.ensures.state ∙ c.loop-at.invariant.state s told, refl)
+pub returns-in_default-clause-kept : goal.returns-in_default-clause-kept
+returns-in_default-clause-kept g c s told = (_, c.in_default.ensures.state ∙ c.loop-at.invariant.state s told, only_prog s _)
 
-pub returns-in_default-prog_program-clause-sent : goal.returns-in_default-prog_program-clause-sent
-returns-in_default-prog_program-clause-sent g c s told =
+pub returns-in_default-prog_program-clause-kept : goal.returns-in_default-prog_program-clause-kept
+returns-in_default-prog_program-clause-kept g c s told =
     let code : List ℕ = take c.args.code (drop 32 (slot_of (flash_of s))) in
     let x : State = record s { prog = filled_pages c.loop-at.at code ++ drop c.loop-at.at s.prog } in
     let to = c.in_default-prog_program.ensures.programs.state x (c.in-Ok.ensures.state ∙ c.loop-at.invariant.state s told) in
-    (to.0, to.1, sent_as_before always (Prog c.loop-at.at) x to.0 to.2)
+    (to.0, to.1, only_programs (may_change 5) always (Prog c.loop-at.at) s x to.0 (only_prog s x.prog) refl to.2)
 
 pub returns-clause-state : goal.returns-clause-state
 returns-clause-state g c s told =
@@ -47,5 +48,5 @@ returns-clause-state g c s told =
     (rw last at c.loop-at.invariant.state s told)
     ∙ ap (λ (ps : List (List ℕ)). Some (record s { prog = ps })) (all_written s.prog 480 (take c.args.code (drop 32 (slot_of (flash_of s)))) sized.prog)
 
-pub returns-clause-sent : goal.returns-clause-sent
-returns-clause-sent g c s told = (_, c.loop-at.invariant.state s told, refl)
+pub returns-clause-kept : goal.returns-clause-kept
+returns-clause-kept g c s told = (_, c.loop-at.invariant.state s told, only_prog s _)
