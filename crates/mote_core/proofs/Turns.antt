@@ -14,15 +14,15 @@ use Rattle.mote_core.specs.declared.session.Next.TheVariants.{Frame as NextFrame
 use Rattle.mote_core.specs.declared.session.Session.{Session}
 use Rattle.mote_core.specs.Flashes.{flash_of, with_flash, SendsBut}
 use Rattle.mote_core.specs.Reading.{served_of, payload_of, NextGives, ServesNext}
-use Rattle.mote_core.specs.Running.{Serves, Turns, Outcome, AllServed, EndsWell, status_of, TellsFaults, Runs}
+use Rattle.mote_core.specs.Running.{Serves, Turns, Outcome, AllServed, EndsWell, Ends, OwesLast, status_of, TellsFaults, Runs}
 use Rattle.mote_core.proofs.Rows.{ended-is_end, is_end-ended}
 
 -- no whole frame was read
 pub read_none : (served : ℕ) (s : State) (l rest : List ℕ) (new : View) (left : List ℕ) (status : ℕ)
     → new.state ≡ Some s → new.left ≡ Some left → served ≤ 1000000 → l ≡ rest ++ left → IsPartial rest
-    → (status ≢ 4 → status ≢ 5 → (status ≡ status_of served [] rest) × (status ≡ 0 → left ≡ []) × (status ≡ 2 → left ≡ []) × (status ≡ 7 → length rest ≡ 1))
+    → status ≢ 4 → (status ≢ 4 → status ≢ 5 → (status ≡ status_of served [] rest) × (status ≡ 0 → left ≡ []) × (status ≡ 2 → left ≡ []) × (status ≡ 7 → length rest ≡ 1))
     → Turns served s l new (Some status)
-read_none served s l rest new left status told told_left room e p h = (
+read_none served s l rest new left status told told_left room e p no_flash h = (
   [],
   rest,
   [],
@@ -37,7 +37,11 @@ read_none served s l rest new left status told told_left room e p h = (
     partial = p;
     after_end = λ q. absurd (let x : ⊥ = cc in x);
     lines = refl;
-    outcome = λ a b. let k = h a b in record { served = record { sent = refl; flash = refl }; status_is = rw add-zero k.0; input = λ z _. k.1 z; cut = k.2; budget = k.3 };
+    outcome = record {
+      well = λ a b. let k = h a b in record { served = record { sent = refl; flash = refl }; status_is = rw add-zero k.0; input = λ z _. k.1 z; cut = k.2; budget = k.3 };
+      line_fault = λ _. refl;
+      flash_fault = λ four. absurd (no_flash four);
+    };
   },
   λ q. absurd (let x : ⊥ = cc in x),
 )
@@ -103,18 +107,29 @@ status_same count fs gs rest e = rw e refl
 served_then : (s : State) (fs : List Frame) (x : State) (gs : List Frame) (owed : List ℕ) (y : State) → flash_of x ≡ after_frames (flash_of s) fs → AllServed x gs owed y → AllServed s (fs ++ gs) owed y
 served_then s fs x gs owed y e h = record { sent = h.sent; flash = rw (after_frames-append (flash_of s) fs gs, ← e) h.flash }
 
+owes_then : (s : State) (fs : List Frame) (x : State) (gs : List Frame) (owed : List ℕ) → flash_of x ≡ after_frames (flash_of s) fs → OwesLast x gs owed → OwesLast s (fs ++ gs) owed
+owes_then s fs x gs owed e h = record {
+  before = fs ++ h.before;
+  last = h.last;
+  are = ap (λ (k : List Frame). fs ++ k) h.are ∙ sym (append_assoc fs h.before (h.last ∷ []));
+  owes = h.owes ∙ ap (λ (f : Flash). line_of (answer_of f h.last)) (ap (λ (f : Flash). after_frames f h.before) e ∙ sym (after_frames-append (flash_of s) fs h.before));
+}
+
 outcome_then : (status : Option ℕ) (count : ℕ) (s : State) (fs : List Frame) (x : State) (gs : List Frame) (rest owed : List ℕ) (y : State) (left : List ℕ) → flash_of x ≡ after_frames (flash_of s) fs → has_end fs ≡ false
     → Outcome status x count gs rest owed y left → Outcome status s count (fs ++ gs) rest owed y left
 outcome_then None count s fs x gs rest owed y left e none o = (served_then s fs x gs owed y e o.0, o.1, has_end-append fs gs none ∙ o.2)
-outcome_then (Some status) count s fs x gs rest owed y left e none o = λ a b.
-    let h = o a b in
+outcome_then (Some status) count s fs x gs rest owed y left e none o =
     let ends : has_end (fs ++ gs) ≡ has_end gs = has_end-append fs gs none in
     record {
-      served = served_then s fs x gs owed y e h.served;
-      status_is = h.status_is ∙ sym (status_same count (fs ++ gs) gs rest ends);
-      input = λ z n. h.input z (sym ends ∙ n);
-      cut = h.cut;
-      budget = h.budget;
+      well = λ a b. let h = o.well a b in record {
+        served = served_then s fs x gs owed y e h.served;
+        status_is = h.status_is ∙ sym (status_same count (fs ++ gs) gs rest ends);
+        input = λ z n. h.input z (sym ends ∙ n);
+        cut = h.cut;
+        budget = h.budget;
+      };
+      line_fault = λ five. o.line_fault five ∙ (ap (λ (f : Flash). after_frames f gs) e ∙ sym (after_frames-append (flash_of s) fs gs));
+      flash_fault = λ four. owes_then s fs x gs owed e (o.flash_fault four);
     }
 
 -- one part of a session after another
@@ -184,28 +199,28 @@ module _ (s : State) (l : List ℕ) (new : View) (told : new.state ≡ Some s) w
   stops InputEnd old_session session payload status e v few r =
       let zero : 0 ≡ status = some_inj 0 status e in
       subst (λ (n : ℕ). Turns (served_of old_session) s l new (Some n)) zero
-      (read_none (served_of old_session) s l [] new r.1 0 told r.2 few (r.3.0 ∙ sym r.3.1) tt (λ _ _. (refl, (λ _. r.3.1), (λ _. r.3.1), (λ z. absurd (omega arith)))))
+      (read_none (served_of old_session) s l [] new r.1 0 told r.2 few (r.3.0 ∙ sym r.3.1) tt (λ z. absurd (omega arith)) (λ _ _. (refl, (λ _. r.3.1), (λ _. r.3.1), (λ z. absurd (omega arith)))))
   stops CutFrame old_session session payload status e v few r =
       let two : 2 ≡ status = some_inj 2 status e in
       let whole : l ≡ r.0 ++ r.1 = r.3.0 ∙ (sym (append-nil r.0) ∙ ap (λ (xs : List ℕ). r.0 ++ xs) (sym r.3.1)) in
       subst (λ (n : ℕ). Turns (served_of old_session) s l new (Some n)) two
-      (read_none (served_of old_session) s l r.0 new r.1 2 told r.2 few whole r.3.4
+      (read_none (served_of old_session) s l r.0 new r.1 2 told r.2 few whole r.3.4 (λ z. absurd (omega arith))
       (λ _ _. (status_cut (served_of old_session) r.0 (not_empty r.0 r.3.2) (is_no_number (served_of old_session) 1000000 v.0) r.3.3, (λ _. r.3.1), (λ _. r.3.1), (λ z. absurd (omega arith)))))
   stops (TooLong n) old_session session payload status e v few r =
       let three : 3 ≡ status = some_inj 3 status e in
       subst (λ (n : ℕ). Turns (served_of old_session) s l new (Some n)) three
-      (read_none (served_of old_session) s l r.0 new r.1 3 told r.2 few r.3.0 r.3.4
+      (read_none (served_of old_session) s l r.0 new r.1 3 told r.2 few r.3.0 r.3.4 (λ z. absurd (omega arith))
       (λ _ _. (status_long (served_of old_session) r.0 (not_empty r.0 r.3.2) (is_no_number (served_of old_session) 1000000 v.0) r.3.3, (λ z. absurd (omega arith)), (λ z. absurd (omega arith)), (λ z. absurd (omega arith)))))
   stops Budget old_session session payload status e v few r =
       let seven : 7 ≡ status = some_inj 7 status e in
       let one = single r.0 r.3.1 in
       subst (λ (n : ℕ). Turns (served_of old_session) s l new (Some n)) seven
-      (read_none (served_of old_session) s l r.0 new r.1 7 told r.2 few r.3.0 one.0
+      (read_none (served_of old_session) s l r.0 new r.1 7 told r.2 few r.3.0 one.0 (λ z. absurd (omega arith))
       (λ _ _. (status_budget (served_of old_session) r.0 one.1 (is_number (served_of old_session) 1000000 (omega arith)), (λ z. absurd (omega arith)), (λ z. absurd (omega arith)), (λ _. r.3.1))))
 
   -- a line fault ended the reading
   pub lost : (served : ℕ) → served ≤ 1000000 → (rest : List ℕ) × (left : List ℕ) × (new.left ≡ Some left) × ((l ≡ rest ++ left) × IsPartial rest) → Turns served s l new (Some 5)
-  lost served few r = read_none served s l r.0 new r.1 5 told r.2 few r.3.0 r.3.1 (λ a b. absurd (b refl))
+  lost served few r = read_none served s l r.0 new r.1 5 told r.2 few r.3.0 r.3.1 (λ z. absurd (omega arith)) (λ a b. absurd (b refl))
 
 -- a whole frame was read
 pub framed : (next : Next) (kind : ℕ) (payload l : List ℕ) (new : View) → next ≡ NextFrame kind → (rest : List ℕ) × (left : List ℕ) × (new.left ≡ Some left) × NextGives (Ok next) payload l rest left
@@ -216,7 +231,8 @@ module _ (served : ℕ) (s : State) (l : List ℕ) (f : Frame) (left : List ℕ)
   -- a flash fault came
   pub fault_serving : (new : View) (x : State) → new.state ≡ Some x → new.left ≡ Some left → x.sent ≡ s.sent → Turns served s l new (Some 4)
   fault_serving new x told told_left same =
-      read_one served s l f (line_of (answer_of (flash_of s) f)) new x left (Some 4) told told_left room frame read (rw same refl) (λ a b. absurd (a refl))
+      read_one served s l f (line_of (answer_of (flash_of s) f)) new x left (Some 4) told told_left room frame read (rw same refl)
+      (record { well = λ a b. absurd (a refl); line_fault = λ z. absurd (omega arith); flash_fault = λ _. record { before = []; last = f; are = refl; owes = refl } })
 
   -- it was END
   pub ends : (a : Answer) (new : View) → a ≡ Ended → a ≡ answer_of (flash_of s) f → new.state ≡ Some (with_flash s (after_answer a f.payload (flash_of s))) → new.left ≡ Some left → Turns served s l new (Some 0)
@@ -226,21 +242,28 @@ module _ (served : ℕ) (s : State) (l : List ℕ) (f : Frame) (left : List ℕ)
       let has : has_end (f ∷ []) ≡ true = rw end refl in
       let same : new.state ≡ Some s = rw is_ended at told in
       read_one served s l f [] new s left (Some 0) same told_left room frame read (rw ended refl)
-      (λ _ _. record { served = record { sent = refl; flash = rw ended refl }; status_is = rw has refl; input = λ _ n. absurd (let q : true ≡ false = sym has ∙ n in cc); cut = λ z. absurd (omega arith); budget = λ z. absurd (omega arith) })
+      (record {
+        well = λ _ _. record { served = record { sent = refl; flash = rw ended refl }; status_is = rw has refl; input = λ _ n. absurd (let q : true ≡ false = sym has ∙ n in cc); cut = λ z. absurd (omega arith); budget = λ z. absurd (omega arith) };
+        line_fault = λ z. absurd (omega arith);
+        flash_fault = λ z. absurd (omega arith);
+      })
 
   module _ (a : Answer) (new : View) (x : State) (owed : List ℕ) (is : a ≡ answer_of (flash_of s) f) (told : new.state ≡ Some x) (told_left : new.left ≡ Some left)
       (sent : SendsBut owed (line_of a) (with_flash s (after_answer a f.payload (flash_of s))) x) where
     line : s.sent ++ line_of (answer_of (flash_of s) f) ≡ x.sent ++ owed
     line = rw (← is) sent.sent
 
+    flash : flash_of x ≡ after_frame (flash_of s) f
+    flash = rw (← is) sent.flash
+
     -- the line was cut by a line fault
     pub fault_sending : Turns served s l new (Some 5)
-    fault_sending = read_one served s l f owed new x left (Some 5) told told_left room frame read line (λ a b. absurd (b refl))
+    fault_sending = read_one served s l f owed new x left (Some 5) told told_left room frame read line
+        (record { well = λ a b. absurd (b refl); line_fault = λ _. flash; flash_fault = λ z. absurd (omega arith) })
 
     -- it was answered, and its line sent
     pub goes_on : (a ≡ Ended → ⊥) → owed ≡ [] → Turns served s l new None
     goes_on other none =
-        let flash : flash_of x ≡ after_frame (flash_of s) f = rw (← is) sent.flash in
         read_one served s l f owed new x left None told told_left room frame read line
         (record { sent = none; flash = flash }, refl, rw (goes_false (is_end f) (λ q. other (is ∙ is_end-ended (flash_of s) f q))) refl)
 
@@ -293,7 +316,9 @@ ran s l old new status served fs x mid faults len a t =
       read = r.7.read ∙ sym (append_assoc (stream_of r.0) r.1 r.4);
       whole = record { whole = refl; each = r.7.each; rest_partial = r.7.partial; rest_after_end = r.7.after_end };
       lines = r.7.lines;
-      ends = λ calm_flash calm_line. r.7.outcome (λ four. calm_flash (faults.flash four)) (λ five. calm_line (faults.line five));
+      line_fault = r.7.outcome.line_fault;
+      flash_fault = r.7.outcome.flash_fault;
+      ends = λ calm_flash calm_line. r.7.outcome.well (λ four. calm_flash (faults.flash four)) (λ five. calm_line (faults.line five));
     }
 
 -- a session that has read nothing
