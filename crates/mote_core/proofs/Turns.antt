@@ -13,8 +13,8 @@ use Rattle.mote_core.specs.declared.session.Next.{Next}
 use Rattle.mote_core.specs.declared.session.Next.TheVariants.{Frame as NextFrame, InputEnd, CutFrame, TooLong, Budget}
 use Rattle.mote_core.specs.declared.session.Session.{Session}
 use Rattle.mote_core.specs.Flashes.{flash_of, with_flash, SendsBut}
-use Rattle.mote_core.specs.Reading.{served_of, payload_of, NextGives, ServesNext}
-use Rattle.mote_core.specs.Running.{Serves, Turns, Outcome, AllServed, EndsWell, Ends, OwesLast, status_of, TellsFaults, Runs}
+use Rattle.mote_core.specs.Reading.{served_of, NextGives, ServesNext}
+use Rattle.mote_core.specs.Running.{Serves, Turns, Outcome, AllServed, OwesLast, status_of, TellsFaults, Runs}
 use Rattle.mote_core.proofs.Rows.{ended-is_end, is_end-ended}
 
 -- no whole frame was read

@@ -1,5 +1,5 @@
 -- What a session does to its board, from the bytes that it reads.
-use Rattle.std.specs.Prelude.{◌≡◌, ◌≢◌, ℕ, ◌+◌, ◌<◌, ◌≤◌, List, [], ◌∷◌, ◌++◌, Bool, IsTrue, IsFalse, Option, None, Some, ◌==◌, ◌||◌, if◌then◌else◌, codes, length}
+use Rattle.std.specs.Prelude.{◌≡◌, ◌≢◌, ℕ, ◌+◌, ◌≤◌, List, [], ◌∷◌, ◌++◌, Bool, IsTrue, IsFalse, Option, None, Some, ◌==◌, ◌||◌, if◌then◌else◌, codes, length}
 use Rattle.flash_pages.specs.State.{State}
 use Rattle.flash_pages.specs.Board.{View, Rose}
 use Rattle.component_package.specs.Frames.{Frame, is_too_long, has_end, stream_of, OnlyLastEnds, IsPartial, Frames}

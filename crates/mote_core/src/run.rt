@@ -16,11 +16,17 @@ use flash_pages::{Board, Failed};
 
 // The statuses of the top call.
 const ENDED: u8 = 0;
+
 const CUT_FRAME: u8 = 2;
+
 const TOO_LONG: u8 = 3;
+
 const FLASH_FAULT: u8 = 4;
+
 const LINE_FAULT: u8 = 5;
+
 const BUDGET: u8 = 7;
+
 const NO_COMMAND: u8 = 64;
 
 // Sends all the bytes.

@@ -14,7 +14,9 @@ use flash_pages::{Board, Failed};
 
 // The types of frames (our own format).
 const PIECE: u8 = 2;
+
 const BOOT: u8 = 5;
+
 const END: u8 = 8;
 
 // Of the types that there are, those from this one on have no payload.
@@ -63,7 +65,10 @@ fn serve_piece<B: Board>(board: &mut B, payload: &[u8]) -> Result<Answer, Failed
     ensures no_fault { OnOk result ((B.view board.new).flash_faults ≡ (B.view board.old).flash_faults) }
     ensures failed { OnErr result (Rose (B.view board.old).flash_faults (B.view board.new).flash_faults) }
 {
-    if payload.len() < 3 || payload.len() > 258 || payload[0] != 0 || payload[1] as u16 >= SLOT_PAGES
+    if payload.len() < 3
+        || payload.len() > 258
+        || payload[0] != 0
+        || payload[1] as u16 >= SLOT_PAGES
     {
         return Ok(Answer::BadPiece);
     }

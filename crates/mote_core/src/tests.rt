@@ -95,10 +95,22 @@ fn frames_are_answered_by_their_rows(rt: HostRuntime) -> Result<(), Fail> {
         (&[2, 1, 4, 9, 0, 0], 3, b""),
         (&[9, 0, 0], 0, b"bad frame 9\n"),
         (&[0, 1, 0, 7, 3, 1, 0, 0], 0, b"bad frame 0\nbad frame 3\n"),
-        (&[1, 1, 0, 0, 3, 0, 0, 4, 0, 0], 0, b"not yet\nnot yet\nnot yet\n"),
+        (
+            &[1, 1, 0, 0, 3, 0, 0, 4, 0, 0],
+            0,
+            b"not yet\nnot yet\nnot yet\n",
+        ),
         (&[6, 0, 0, 7, 0, 0], 0, b"not yet\nnot yet\n"),
-        (&[2, 3, 0, 0, 38, 1, 2, 3, 0, 0, 39, 1], 0, b"piece 0 38\nbad piece\n"),
-        (&[2, 3, 0, 1, 0, 1, 2, 2, 0, 0, 0], 0, b"bad piece\nbad piece\n"),
+        (
+            &[2, 3, 0, 0, 38, 1, 2, 3, 0, 0, 39, 1],
+            0,
+            b"piece 0 38\nbad piece\n",
+        ),
+        (
+            &[2, 3, 0, 1, 0, 1, 2, 2, 0, 0, 0],
+            0,
+            b"bad piece\nbad piece\n",
+        ),
         (&[8, 0, 0, 9, 0, 0], 0, b""),
         (&[9, 0, 0, 8, 0], 2, b"bad frame 9\n"),
     ];
@@ -111,7 +123,10 @@ fn frames_are_answered_by_their_rows(rt: HostRuntime) -> Result<(), Fail> {
     }
     let mut other = board(alloc, &BOOT, 7)?;
     assert_eq!(rt; mote_main(&[], &mut other), 64);
-    assert_eq!(rt; mote_main(one_word(alloc, "runs")?.as_slice(), &mut other), 64);
+    assert_eq!(rt;
+        mote_main(one_word(alloc, "runs")?.as_slice(), &mut other),
+        64
+    );
     assert_eq!(rt; other.sent_bytes(), b"".as_slice());
     assert_eq!(rt; run_session(&mut other), 0);
     assert_eq!(rt; other.sent_bytes(), b"bad package 0 2\n".as_slice());
@@ -148,10 +163,18 @@ fn a_fault_ends_the_session_and_no_later_one(rt: HostRuntime) -> Result<(), Fail
         let mut next = board.restart(alloc, &BOOT, plan(Vec::new(alloc), 1024))?;
         assert_eq!(rt; run(alloc, &mut next)?, 0, "after call {call}");
         if stored {
-            assert_eq!(rt; next.sent_bytes(), b"booted 1\n".as_slice(), "after call {call}");
+            assert_eq!(rt;
+                next.sent_bytes(),
+                b"booted 1\n".as_slice(),
+                "after call {call}"
+            );
             assert_eq!(rt; next.prog_page(0)[1], 0x95, "after call {call}");
         } else {
-            assert_eq!(rt; next.sent_bytes(), b"bad package 0 2\n".as_slice(), "after call {call}");
+            assert_eq!(rt;
+                next.sent_bytes(),
+                b"bad package 0 2\n".as_slice(),
+                "after call {call}"
+            );
             assert_eq!(rt; next.prog_page(0)[1], 0, "after call {call}");
         }
     }
@@ -173,7 +196,10 @@ fn frames_are_read_and_no_byte_past_them(rt: HostRuntime) -> Result<(), Fail> {
     assert_eq!(rt; board.receive(&mut rest), Ok(1));
     assert_eq!(rt; rest[0], 77);
     assert_eq!(rt; session.next_frame(&mut board), Ok(Next::InputEnd));
-    assert_eq!(rt; serve_one(&mut board, 2, &[0, 38, 1, 2]), Ok(Answer::Piece(0, 38)));
+    assert_eq!(rt;
+        serve_one(&mut board, 2, &[0, 38, 1, 2]),
+        Ok(Answer::Piece(0, 38))
+    );
     let mut page = [0xFF; 256];
     page[0] = 1;
     page[1] = 2;
@@ -196,7 +222,10 @@ fn lines_are_words_and_numbers(rt: HostRuntime) -> Result<(), Fail> {
     for (answer, line) in rows {
         let mut into = [0; 64];
         let length = write_line(&answer, &mut into);
-        assert_eq!(rt; into[..length as usize].to_vec(rt.alloc())?.as_slice(), line);
+        assert_eq!(rt;
+            into[..length as usize].to_vec(rt.alloc())?.as_slice(),
+            line
+        );
     }
     Ok(())
 }

@@ -1,4 +1,4 @@
-use Rattle.std.proofs.Common.{◌≡◌, ℕ, List, [], ◌∷◌, length, slice_index_or, codes, arith, ap, IsTrue, ◌↔◌, Bool, ◌∙◌, sym}
+use Rattle.std.proofs.Common.{◌≡◌, ℕ, List, [], ◌∷◌, length, slice_index_or, codes, arith, ap, IsTrue, ◌↔◌, Bool, ◌∙◌}
 use Rattle.mote_core.proofs.run.is_run.Goals as goal
 
 one_word : (ws : List (List ℕ)) (d run : List ℕ) (b : Bool) → length ws ≡ 1 → IsTrue b ↔ (slice_index_or ws 0 d ≡ run) → IsTrue b ↔ (ws ≡ run ∷ [])

@@ -1,4 +1,4 @@
-use Rattle.std.proofs.Common.{◌≡◌, ◌≤◌, ◌-◌, ◌++◌, Some, take, length}
+use Rattle.std.proofs.Common.{◌≡◌, ◌≤◌, ◌-◌, Some, take, length}
 use Rattle.flash_pages.specs.State.{State, with_sent}
 use Rattle.mote_core.proofs.run.send_all.Given as goal
 

@@ -1,4 +1,4 @@
-use Rattle.std.proofs.Common.{ap, ◌∙◌, refl}
+use Rattle.std.proofs.Common.{ap, ◌∙◌}
 use Rattle.mote_core.specs.Reading.{served_of}
 use Rattle.mote_core.proofs.Turns.{stops, stop_of, lost, framed, fault_serving, ends, fault_sending, goes_on}
 use Rattle.mote_core.proofs.run.turn.Goals as goal

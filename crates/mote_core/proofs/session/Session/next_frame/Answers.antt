@@ -1,4 +1,4 @@
-use Rattle.std.proofs.Common.{arith, refl, ◌≡◌, ◌+◌, ◌*◌, slice_index_or, ◌∙◌}
+use Rattle.std.proofs.Common.{arith, ◌≡◌, ◌+◌, ◌*◌, slice_index_or}
 use Rattle.std.proofs.lemmas.Grind.{common_steps}
 use Rattle.mote_core.proofs.Streams.{cut_head, cut_payload, whole_frame}
 use Rattle.mote_core.proofs.Calls.{line_then}
