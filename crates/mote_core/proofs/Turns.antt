@@ -14,7 +14,8 @@ use Rattle.mote_core.specs.declared.session.Next.TheVariants.{Frame as NextFrame
 use Rattle.mote_core.specs.declared.session.Session.{Session}
 use Rattle.mote_core.specs.Flashes.{flash_of, with_flash, SendsBut}
 use Rattle.mote_core.specs.Reading.{served_of, NextGives, ServesNext}
-use Rattle.mote_core.specs.Running.{Serves, Turns, Outcome, AllServed, OwesLast, status_of, TellsFaults, Runs}
+use Rattle.mote_core.specs.Parts.{Serves, Turns, Outcome}
+use Rattle.mote_core.specs.Running.{AllServed, OwesLast, status_of, TellsFaults, Runs}
 use Rattle.mote_core.proofs.Rows.{ended-is_end, is_end-ended}
 
 -- no whole frame was read
@@ -316,9 +317,8 @@ ran s l old new status served fs x mid faults len a t =
       read = r.7.read ∙ sym (append_assoc (stream_of r.0) r.1 r.4);
       whole = record { whole = refl; each = r.7.each; rest_partial = r.7.partial; rest_after_end = r.7.after_end };
       lines = r.7.lines;
-      line_fault = r.7.outcome.line_fault;
-      flash_fault = r.7.outcome.flash_fault;
-      ends = λ calm_flash calm_line. r.7.outcome.well (λ four. calm_flash (faults.flash four)) (λ five. calm_line (faults.line five));
+      ends = r.7.outcome;
+      calm = λ calm_flash calm_line. r.7.outcome.well (λ four. calm_flash (faults.flash four)) (λ five. calm_line (faults.line five));
     }
 
 -- a session that has read nothing

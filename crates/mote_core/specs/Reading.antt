@@ -5,7 +5,7 @@ use Rattle.mote_core.specs.declared.session.Next.{Next}
 use Rattle.mote_core.specs.declared.session.Next.TheVariants.{Frame as NextFrame, InputEnd, CutFrame, TooLong, Budget}
 use Rattle.mote_core.specs.declared.session.Session.{Session}
 use Rattle.component_package.specs.Numbers.{u16_at}
-use Rattle.component_package.specs.Frames.{IsFrame, frame_bytes, IsPartial, is_too_long}
+use Rattle.component_package.specs.Frames.{Frame, IsFrame, frame_bytes, IsPartial, is_too_long}
 
 -- how many frames a session has read
 abbrev pub served_of : Session → ℕ
@@ -15,10 +15,15 @@ served_of session = session.served
 abbrev pub payload_of : Session → List ℕ
 payload_of session = take session.payload_len session.buffer
 
+-- the frame of this type and payload
+abbrev pub frame_of : ℕ → List ℕ → Frame
+frame_of kind payload = record { kind = kind; payload = payload }
+
 -- From the bytes left before a reading to those left after it: a whole frame with this payload, or a rest that is none. The rest is empty where
--- the input ended between frames, a frame cut short, a head with too great a length n and nothing after it, or one byte after the last frame of a session.
+-- the input ended between frames; it is a frame cut short, a head with too great a length n and nothing after it, or one byte after the last frame of a
+-- session.
 abbrev pub NextGives : Result Next Failed → List ℕ → List ℕ → List ℕ → List ℕ → Type 0
-NextGives (Ok (NextFrame kind)) payload old rest new = IsFrame (record { kind = kind; payload = payload }) × (rest ≡ []) × (old ≡ frame_bytes (record { kind = kind; payload = payload }) ++ new)
+NextGives (Ok (NextFrame kind)) payload old rest new = IsFrame (frame_of kind payload) × (rest ≡ []) × (old ≡ frame_bytes (frame_of kind payload) ++ new)
 NextGives (Ok InputEnd) payload old rest new = (old ≡ []) × (new ≡ []) × (rest ≡ [])
 NextGives (Ok CutFrame) payload old rest new = (old ≡ rest) × (new ≡ []) × (rest ≢ []) × IsFalse (is_too_long rest) × IsPartial rest
 NextGives (Ok (TooLong n)) payload old rest new = (old ≡ rest ++ new) × (n ≡ u16_at rest 1) × (rest ≢ []) × IsTrue (is_too_long rest) × IsPartial rest

@@ -1,8 +1,8 @@
 -- What a session does to its board, from the bytes that it reads.
-use Rattle.std.specs.Prelude.{◌≡◌, ◌≢◌, ℕ, ◌+◌, ◌≤◌, List, [], ◌∷◌, ◌++◌, Bool, IsTrue, IsFalse, Option, None, Some, ◌==◌, ◌||◌, if◌then◌else◌, codes, length}
+use Rattle.std.specs.Prelude.{◌≡◌, ◌≢◌, ℕ, ◌≤◌, List, [], ◌∷◌, ◌++◌, Bool, IsFalse, Some, ◌==◌, ◌||◌, if◌then◌else◌, codes, length}
 use Rattle.flash_pages.specs.State.{State}
 use Rattle.flash_pages.specs.Board.{View, Rose}
-use Rattle.component_package.specs.Frames.{Frame, is_too_long, has_end, stream_of, OnlyLastEnds, IsPartial, Frames}
+use Rattle.component_package.specs.Frames.{Frame, Frames, is_too_long, has_end}
 use Rattle.component_package.specs.FirstMachine.{answer_of, lines_of, after_frames}
 use Rattle.component_package.specs.Lines.{line_of}
 use Rattle.mote_core.specs.Flashes.{flash_of}
@@ -33,14 +33,15 @@ pub record TellsFaults (status : ℕ) (old new : View) : Type 0 where
   pub line : status ≡ 5 → Rose old.line_faults new.line_faults
   pub line_kept : status ≢ 5 → new.line_faults ≡ old.line_faults
 
--- ---- a session and its parts
+-- ---- a session
 
 -- all lines were sent, and both flashes are as the frames leave them
 pub record AllServed (s : State) (frames : List Frame) (owed : List ℕ) (x : State) : Type 0 where
   pub sent : owed ≡ []
   pub flash : flash_of x ≡ after_frames (flash_of s) frames
 
--- all was served, the status is by the frames and the rest, and the input has ended where they say so; one byte alone is read past the last frame of a session
+-- All was served, and the status is by the frames and the rest. The input has ended where it ended inside a frame or between frames; past the last frame of
+-- a session one byte is read.
 pub record EndsWell (s : State) (count : ℕ) (frames : List Frame) (rest owed : List ℕ) (x : State) (left : List ℕ) (status : ℕ) : Type 0 where
   pub served : AllServed s frames owed x
   pub status_is : status ≡ status_of count frames rest
@@ -55,36 +56,15 @@ pub record OwesLast (s : State) (frames : List Frame) (owed : List ℕ) : Type 0
   pub are : frames ≡ before ++ last ∷ []
   pub owes : owed ≡ line_of (answer_of (after_frames (flash_of s) before) last)
 
--- Where no fault ended a session it ended well. A line is sent only after what it says was done: where a line fault ended the session both flashes are as
--- the frames leave them, and where a flash fault did nothing was sent of the last frame's line.
+-- Where no fault ended a session it ended well. A line is sent only once what it says was done: where a line fault ended the session both flashes are as the
+-- frames leave them, and where a flash fault did nothing was sent of the last frame's line.
 pub record Ends (s : State) (count : ℕ) (frames : List Frame) (rest owed : List ℕ) (x : State) (left : List ℕ) (status : ℕ) : Type 0 where
   pub well : status ≢ 4 → status ≢ 5 → EndsWell s count frames rest owed x left status
   pub line_fault : status ≡ 5 → flash_of x ≡ after_frames (flash_of s) frames
   pub flash_fault : status ≡ 4 → OwesLast s frames owed
 
--- what goes on has served all, and what ended has ended so
-abbrev pub Outcome : Option ℕ → State → ℕ → List Frame → List ℕ → List ℕ → State → List ℕ → Type 0
-Outcome None s count frames rest owed x left = AllServed s frames owed x × (rest ≡ []) × IsFalse (has_end frames)
-Outcome (Some status) s count frames rest owed x left = Ends s count frames rest owed x left status
-
--- Part of a session, from a state and the bytes left to others: the frames and the rest that it read, what is owed of their lines, and the status if the
--- session ended. The count is of the frames of the whole session so far.
-pub record Serves (count : ℕ) (s : State) (l : List ℕ) (frames : List Frame) (rest owed : List ℕ) (x : State) (left : List ℕ) (status : Option ℕ) : Type 0 where
-  pub few : count ≤ 1000000
-  pub read : l ≡ stream_of frames ++ (rest ++ left)
-  pub each : OnlyLastEnds frames
-  pub partial : IsPartial rest
-  pub after_end : IsTrue (has_end frames) → rest ≡ []
-  pub lines : s.sent ++ lines_of (flash_of s) frames ≡ x.sent ++ owed
-  pub outcome : Outcome status s count frames rest owed x left
-
--- one turn of a session that had served so many frames: it reads one frame at most, and one if the session goes on
-abbrev pub Turns : ℕ → State → List ℕ → View → Option ℕ → Type 0
-Turns served s l new status = (frames : List Frame) × (rest : List ℕ) × (owed : List ℕ) × (x : State) × (left : List ℕ)
-    × (new.state ≡ Some x) × (new.left ≡ Some left) × Serves (served + length frames) s l frames rest owed x left status × (status ≡ None → length frames ≡ 1)
-
--- A session from a state and the bytes left. What it read is whole frames and a rest, and what it sent is their lines but for those owed; after a fault
--- too a line was sent only once what it says was done. Where no count of faults rose it ended well.
+-- A session from this state and these bytes left, with this status. What it read is whole frames and a rest, and what it sent is their lines but for those
+-- bytes that are owed. Where no count of faults rose it ended well.
 pub record Runs (s : State) (l : List ℕ) (old new : View) (status : ℕ) : Type 0 where
   pub got : List ℕ
   pub frames : List Frame
@@ -98,6 +78,5 @@ pub record Runs (s : State) (l : List ℕ) (old new : View) (status : ℕ) : Typ
   pub few : length frames ≤ 1000000
   pub whole : Frames got frames rest
   pub lines : s.sent ++ lines_of (flash_of s) frames ≡ end.sent ++ owed
-  pub line_fault : status ≡ 5 → flash_of end ≡ after_frames (flash_of s) frames
-  pub flash_fault : status ≡ 4 → OwesLast s frames owed
-  pub ends : ¬ Rose old.flash_faults new.flash_faults → ¬ Rose old.line_faults new.line_faults → EndsWell s (length frames) frames rest owed end left status
+  pub ends : Ends s (length frames) frames rest owed end left status
+  pub calm : ¬ Rose old.flash_faults new.flash_faults → ¬ Rose old.line_faults new.line_faults → EndsWell s (length frames) frames rest owed end left status

@@ -6,7 +6,8 @@ ghost use Rattle.flash_pages.specs.Board.{Rose};
 ghost use Rattle.component_package.specs.Lines.{line_of};
 ghost use Rattle.mote_core.specs.Flashes.{SendsBut};
 ghost use Rattle.mote_core.specs.Reading.{served_of};
-ghost use Rattle.mote_core.specs.Running.{IsRun, is_status, TellsFaults, Turns, Runs};
+ghost use Rattle.mote_core.specs.Running.{IsRun, is_status, TellsFaults, Runs};
+ghost use Rattle.mote_core.specs.Parts.{Turns};
 
 use crate::line::write_line;
 use crate::serving::serve_one;

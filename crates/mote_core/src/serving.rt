@@ -6,6 +6,7 @@ ghost use Rattle.flash_pages.specs.Board.{UsesFlash, Rose};
 ghost use Rattle.component_package.specs.Numbers.{u16_at};
 ghost use Rattle.component_package.specs.Reading.{header_of};
 ghost use Rattle.component_package.specs.FirstMachine.{answer_of, after_answer, piece_answer, boot_answer, is_plain, slot_fault, slot_head, filled_page, filled_pages, slot_of};
+ghost use Rattle.mote_core.specs.Reading.{frame_of};
 ghost use Rattle.mote_core.specs.Flashes.{flash_of, with_flash, may_change, KeepsBut};
 
 use component_package::areas::{SLOT_PAGES, SLOTS};
@@ -217,7 +218,7 @@ fn serve_boot<B: Board>(board: &mut B) -> Result<Answer, Failed>
 pub fn serve_one<B: Board>(board: &mut B, kind: u8, payload: &[u8]) -> Result<Answer, Failed>
     requires { length payload.now ≤ 1024 }
     ensures answer { IfOk result (λ a. (s : State) → (B.view board.old).state ≡ Some s
-        → a ≡ answer_of (flash_of s) (record { kind = kind; payload = payload.now })) }
+        → a ≡ answer_of (flash_of s) (frame_of kind payload.now)) }
     ensures state { IfOk result (λ a. (s : State) → (B.view board.old).state ≡ Some s
         → (B.view board.new).state ≡ Some (with_flash s (after_answer a payload.now (flash_of s)))) }
     ensures kept { KeepsBut (may_change kind) (B.view board.old) (B.view board.new) }

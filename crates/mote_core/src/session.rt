@@ -27,7 +27,7 @@ pub enum Next {
 }
 
 /// The reading side of a session: how many frames it has read, and the payload of the last.
-#[derive(Drop)]
+#[derive(Debug, Drop)]
 pub struct Session {
     buffer: [u8; 1024],
     payload_len: u16,

@@ -2,7 +2,7 @@ use Rattle.std.proofs.Common.{◌≡◌, ◌-◌, List, ℕ, [], None, Some, len
 use Rattle.flash_pages.specs.State.{State}
 use Rattle.component_package.specs.Frames.{Frame}
 use Rattle.mote_core.specs.Reading.{served_of}
-use Rattle.mote_core.specs.Running.{Serves}
+use Rattle.mote_core.specs.Parts.{Serves}
 use Rattle.mote_core.proofs.run.run_session.Given as goal
 
 abbrev pub invariant-loop-status : goal.invariant-loop-status
