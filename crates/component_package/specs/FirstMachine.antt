@@ -70,11 +70,7 @@ slot_code flash = take (header_of (slot_head flash)).code (drop 32 (slot_of flas
 abbrev pub after_answer : Answer → List ℕ → Flash → Flash
 after_answer (Piece k p) payload flash = record flash { ext = slice_set flash.ext (786 + p) (filled_page (drop 2 payload)) }
 after_answer (Booted n) payload flash = record flash { prog = filled_pages 480 (slot_code flash) }
-after_answer (BadFrame t) payload flash = flash
-after_answer NotYet payload flash = flash
-after_answer BadPiece payload flash = flash
-after_answer (BadPackage k f) payload flash = flash
-after_answer Ended payload flash = flash
+after_answer answer payload flash = flash
 
 abbrev pub after_frame : Flash → Frame → Flash
 after_frame flash f = after_answer (answer_of flash f) f.payload flash

@@ -9,4 +9,10 @@ pub mod Pages
 pub mod Frames
 pub mod Lines
 pub mod FirstMachine
+pub mod Manifest
+pub mod Store
+pub mod Sides
+pub mod Sound
+pub mod Machine
+pub mod Headline
 pub mod Laws

@@ -12,7 +12,7 @@ use Rattle.component_package.specs.declared.part.Place.{Place}
 use Rattle.component_package.specs.declared.part.Place.TheVariants as places
 use Rattle.component_package.specs.declared.part.Export.{Export}
 use Rattle.component_package.specs.Component.{Component}
-use Rattle.component_package.specs.Layout.{Room, room_of, code_total, init_total, bss_total, code_base, load_base, ram_base, bss_base, data_start}
+use Rattle.component_package.specs.Layout.{Room, room_of, code_total, init_total, bss_total, code_base, load_base, ram_base, bss_base, linker_symbol}
 
 abbrev pub rooms_of : List Component → List Room
 rooms_of set = map room_of set
@@ -43,20 +43,10 @@ address_of set s = option_map (λ x. base_of_place set x.0 x.1.place + x.1.value
 abbrev pub fixed_target : List Component → ℕ → ℕ → Option ℕ
 fixed_target set k t =
     let rooms = rooms_of set in
-    let data_end = data_start + init_total rooms in
-    let bss_end = data_end + bss_total rooms in
     if t == 0 then Some (code_base rooms k)
     else if t == 1 then Some (ram_base rooms k)
     else if t == 2 then Some (bss_base rooms k)
-    else if t == 3 then Some data_start
-    else if t == 4 then Some data_end
-    else if t == 5 then Some (code_total rooms)
-    else if t == 6 then Some data_end
-    else if t == 7 then Some bss_end
-    else if t == 8 then Some bss_end
-    else if t == 9 then Some 0x8010FF
-    else if t == 10 then Some 0
-    else None
+    else linker_symbol rooms t
 
 abbrev pub sites_in : ℕ → Component → List Site
 sites_in k c = map (λ r. record { component = k; index = r.0; reloc = r.1 }) (enumerate_from 0 c.relocs)

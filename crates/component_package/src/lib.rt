@@ -10,12 +10,14 @@ pub mod areas;
 mod fault;
 mod header;
 mod list;
+mod manifest;
 mod part;
 
 pub use answer::Answer;
 pub use fault::PackageFault;
 pub use header::read_header;
 pub use list::{Bytes, NoMemory, Text};
+pub use manifest::{Entry, Manifest, ManifestFault, SlotManifest};
 pub use part::{Export, Header, Place, Reloc, Site};
 
 /// The bytes of a line are one list of frames and one rest. It does nothing: its contract is the law.
