@@ -12,6 +12,9 @@ ghost use Rattle.external_flash.specs.Areas.{Differs, bytes_from};
 
 use flash_pages::{Board, Failed};
 
+#[cfg(test)]
+mod tests;
+
 /// The gates. The first stands on page 0 of the external flash, and each other on the page after the one before it.
 #[derive(Clone, Copy, Debug, PartialEq, Eq)]
 pub enum Gate {

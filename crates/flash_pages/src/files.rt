@@ -51,10 +51,12 @@ fn open_flash<R: Files>(rt: &R, path: &str) -> io::Result<R::File> {
 }
 
 impl<'a, R: Files + Input + Print> FileBoard<'a, R> {
+    ghost use Rattle.flash_pages.specs.Files.{file_view};
+
     /// A board on the files at these two paths, of program flash and of external flash. It opens nothing yet.
     pub fn new(rt: &'a R, prog: &'a str, ext: &'a str) -> FileBoard<'a, R>
-        ensures flash { result.flash_faults ≡ 0 }
-        ensures line { result.line_faults ≡ 0 }
+        ensures flash { (file_view result).flash_faults ≡ 0 }
+        ensures line { (file_view result).line_faults ≡ 0 }
     {
         FileBoard {
             rt,
@@ -151,9 +153,9 @@ impl<'a, R: Files + Input + Print> FileBoard<'a, R> {
 }
 
 impl<'a, R: Files + Input + Print> Board for FileBoard<'a, R> {
-    ghost use Rattle.flash_pages.specs.Files.{untold_view};
+    ghost use Rattle.flash_pages.specs.Files.{file_view};
 
-    ghost view = { λ b. untold_view b.flash_faults b.line_faults };
+    ghost view = { file_view };
 
     fn ext_read(&mut self, page: u16, into: &mut [u8; 256]) -> Result<(), Failed> {
         match self.read_ext(page, into) {

@@ -1,7 +1,7 @@
 //! A board in memory, whose calls fail and stop as a plan says.
 //!
 //! It keeps what each change took the place of. So what a cut may have left at any moment is told by undoing the changes, the newest first.
-ghost use Rattle.std.specs.Prelude.{◌≡◌, ◌≤◌, ◌<◌, ◌+◌, ◌*◌, ◌^◌, ◌++◌, [], ◌∷◌, length, reverse, slice_set, replicate, OnOk, OnErr, IfOk, IsTrue, IsSomeAnd, Some, All};
+ghost use Rattle.std.specs.Prelude.{◌≡◌, ◌↔◌, ◌≤◌, ◌<◌, ◌+◌, ◌++◌, [], ◌∷◌, length, slice_set, replicate, OnOk, OnErr, IfOk, IsTrue, IsSomeAnd, All};
 ghost use Rattle.flash_pages.specs.State.{AreBytes, IsPage, Prog, Ext, page_at};
 ghost use Rattle.flash_pages.specs.Log.{is_program};
 
@@ -74,7 +74,7 @@ fn zero_pages(alloc: Global, count: usize) -> Result<Vec<[u8; 256]>, AllocError>
 }
 
 impl MemoryBoard {
-    ghost use Rattle.flash_pages.specs.Memory.{memory_view, zeros, IsFresh, unsent};
+    ghost use Rattle.flash_pages.specs.Memory.{memory_view, zeros, IsFresh, unsent, plan_of, program_room, sent_room};
 
     /// A board whose pages hold zeros and that has sent nothing. It takes room for `programs` programs of pages and for
     /// `sent` sent bytes here, so that no call of `Board` takes memory. `NoMemory` is want of memory alone.
@@ -85,7 +85,9 @@ impl MemoryBoard {
         programs: u32,
         sent: u32,
     ) -> Result<MemoryBoard, NoMemory>
-        ensures { IfOk result (λ board. IsFresh zeros input.now (memory_view board)) }
+        ensures fresh { IfOk result (λ board. IsFresh zeros input.now (memory_view board)) }
+        ensures plan { IfOk result (λ board. plan_of board ≡ plan) }
+        ensures rooms { IfOk result (λ board. (program_room board ≡ programs) × (sent_room board ≡ sent)) }
     {
         Ok(MemoryBoard {
             prog: zero_pages(alloc, 480)?,
@@ -111,7 +113,9 @@ impl MemoryBoard {
         input: &[u8],
         plan: BoardPlan,
     ) -> Result<MemoryBoard, NoMemory>
-        ensures { IfOk result (λ board. IsSomeAnd (memory_view self).state (λ s. IsFresh (unsent s) input.now (memory_view board))) }
+        ensures fresh { IfOk result (λ board. IsSomeAnd (memory_view self).state (λ s. IsFresh (unsent s) input.now (memory_view board))) }
+        ensures plan { IfOk result (λ board. plan_of board ≡ plan) }
+        ensures rooms { IfOk result (λ board. (program_room board ≡ program_room self) × (sent_room board ≡ sent_room self)) }
     {
         let MemoryBoard {
             prog,
@@ -183,7 +187,9 @@ fn fails(plan: &BoardPlan, calls: &mut u64, stopped: bool) -> bool {
 }
 
 // Whether the program after so many is the one with this number.
-fn is_next(number: u32, programs: u32) -> bool {
+fn is_next(number: u32, programs: u32) -> bool
+    ensures { IsTrue result ↔ (number ≡ programs + 1) }
+{
     number > 0 && number - 1 == programs
 }
 
