@@ -27,4 +27,3 @@ pub record Serves (count : ℕ) (s : State) (l : List ℕ) (frames : List Frame)
 abbrev pub Turns : ℕ → State → List ℕ → View → Option ℕ → Type 0
 Turns served s l new status = (frames : List Frame) × (rest : List ℕ) × (owed : List ℕ) × (x : State) × (left : List ℕ) × (new.state ≡ Some x) × (new.left ≡ Some left)
     × Serves (served + length frames) s l frames rest owed x left status × (status ≡ None → length frames ≡ 1)
-

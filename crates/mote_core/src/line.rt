@@ -41,18 +41,42 @@ fn put_line(into: &mut [u8; 64], words: &[u8], numbers: &[u32]) -> u8
     put(into, at, b"\n") as u8
 }
 
-/// Writes the line of an answer, in ASCII with its line feed, and gives its length: 0 to 64 bytes, 0 for `Ended` alone.
+/// Writes the line of an answer, in ASCII with its line feed, and gives its length: 0 to 64 bytes, 0 for `Ended` and
+/// `Unformatted` alone.
 pub fn write_line(a: &Answer, into: &mut [u8; 64]) -> u8
     ensures end { result ≤ 64 }
     ensures bytes { take result into.new ≡ line_of a.now }
 {
     match *a {
         Answer::BadFrame(t) => put_line(into, b"bad frame", &[t as u32]),
-        Answer::NotYet => put_line(into, b"not yet", &[]),
+        Answer::Reboot(n) => put_line(into, b"reboot", &[n]),
+        Answer::BadManifest(f) => put_line(into, b"bad manifest", &[f as u32]),
+        Answer::Stale(c) => put_line(into, b"stale", &[c]),
+        Answer::ManifestIs(n, h) => put_line(into, b"manifest", &[n, h as u32]),
+        Answer::NoManifest => put_line(into, b"no manifest", &[]),
         Answer::BadPiece => put_line(into, b"bad piece", &[]),
+        Answer::Held(k) => put_line(into, b"held", &[k as u32]),
         Answer::Piece(k, p) => put_line(into, b"piece", &[k as u32, p as u32]),
+        Answer::Linked(n) => put_line(into, b"linked", &[n]),
+        Answer::Missing(k) => put_line(into, b"missing", &[k as u32]),
         Answer::BadPackage(k, f) => put_line(into, b"bad package", &[k as u32, f as u32]),
+        Answer::Flash(t) => put_line(into, b"flash", &[t]),
+        Answer::Ram(t) => put_line(into, b"ram", &[t]),
+        Answer::Symbols(n) => put_line(into, b"symbols", &[n]),
+        Answer::Relocations(n) => put_line(into, b"relocations", &[n]),
+        Answer::Duplicate(s, i, j) => {
+            put_line(into, b"duplicate", &[s as u32, i as u32, j as u32])
+        }
+        Answer::Undefined(k, r, s) => {
+            put_line(into, b"undefined", &[k as u32, r as u32, s as u32])
+        }
+        Answer::Range(k, r, c) => put_line(into, b"range", &[k as u32, r as u32, c as u32]),
+        Answer::Committed(n) => put_line(into, b"committed", &[n]),
+        Answer::NotLinked => put_line(into, b"not linked", &[]),
         Answer::Booted(n) => put_line(into, b"booted", &[n]),
-        Answer::Ended => 0,
+        Answer::Status(c, n, s) => put_line(into, b"status", &[c, n, s as u32]),
+        Answer::Aborted => put_line(into, b"aborted", &[]),
+        Answer::NotYet => put_line(into, b"not yet", &[]),
+        Answer::Ended | Answer::Unformatted => 0,
     }
 }

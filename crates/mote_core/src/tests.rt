@@ -209,15 +209,34 @@ fn frames_are_read_and_no_byte_past_them(rt: HostRuntime) -> Result<(), Fail> {
 
 #[test]
 fn lines_are_words_and_numbers(rt: HostRuntime) -> Result<(), Fail> {
-    let rows: [(Answer, &[u8]); 8] = [
+    let rows: [(Answer, &[u8]); 27] = [
         (Answer::BadFrame(255), b"bad frame 255\n"),
-        (Answer::NotYet, b"not yet\n"),
+        (Answer::Reboot(1), b"reboot 1\n"),
+        (Answer::BadManifest(1), b"bad manifest 1\n"),
+        (Answer::Stale(1), b"stale 1\n"),
+        (Answer::ManifestIs(2, 4), b"manifest 2 4\n"),
+        (Answer::NoManifest, b"no manifest\n"),
         (Answer::BadPiece, b"bad piece\n"),
+        (Answer::Held(0), b"held 0\n"),
         (Answer::Piece(15, 38), b"piece 15 38\n"),
+        (Answer::Linked(2), b"linked 2\n"),
+        (Answer::Missing(1), b"missing 1\n"),
         (Answer::BadPackage(0, 12), b"bad package 0 12\n"),
+        (Answer::Flash(122_882), b"flash 122882\n"),
+        (Answer::Ram(3586), b"ram 3586\n"),
+        (Answer::Symbols(1025), b"symbols 1025\n"),
+        (Answer::Relocations(8193), b"relocations 8193\n"),
+        (Answer::Duplicate(20, 0, 2), b"duplicate 20 0 2\n"),
+        (Answer::Undefined(1, 0, 20), b"undefined 1 0 20\n"),
+        (Answer::Range(15, 65_535, 2), b"range 15 65535 2\n"),
+        (Answer::Committed(4_294_967_295), b"committed 4294967295\n"),
+        (Answer::NotLinked, b"not linked\n"),
         (Answer::Booted(0), b"booted 0\n"),
-        (Answer::Booted(4_294_967_295), b"booted 4294967295\n"),
+        (Answer::Status(0, 1, 2), b"status 0 1 2\n"),
+        (Answer::Aborted, b"aborted\n"),
+        (Answer::NotYet, b"not yet\n"),
         (Answer::Ended, b""),
+        (Answer::Unformatted, b""),
     ];
     for (answer, line) in rows {
         let mut into = [0; 64];
