@@ -1,16 +1,14 @@
 -- A formatted board is sound.
-use Rattle.std.proofs.Common.{◌≡◌, ℕ, zero, suc, ◌+◌, ◌-◌, ◌*◌, ◌<◌, ◌≤◌, ◌&&◌, Bool, true, false, List, [], ◌∷◌, ◌++◌, length, take, drop, map, get_or, replicate, eqb, ltb, Option, Some, None, refl, sym, ap, ◌∙◌, subst, arith, slice_range}
+use Rattle.std.proofs.Common.{◌≡◌, ℕ, zero, suc, ◌+◌, ◌-◌, ◌*◌, ◌<◌, ◌≤◌, true, false, List, [], ◌++◌, length, take, drop, map, get_or, replicate, eqb, None, refl, sym, ap, ◌∙◌, subst, arith}
 use Rattle.std.specs.List.{concat, range_with_len}
-use Rattle.std.proofs.lemmas.Bool.{false≢true}
 use Rattle.std.proofs.lemmas.List.{get_or-replicate, take-replicate, drop-replicate, length-replicate, replicate-append-replicate, same_lists}
 use Rattle.std.proofs.lemmas.List.FromFn.{length-map-range_with_len, get_or-map-range_with_len}
-use Rattle.component_package.specs.Component.{Component}
 use Rattle.component_package.specs.Link.{link_cause, IsImage}
-use Rattle.component_package.specs.Pages.{padded, page_in, cut, IsPages}
-use Rattle.component_package.specs.Manifest.{StoredRelease, IsStored, Stores}
+use Rattle.component_package.specs.Pages.{page_in, cut, IsPages}
+use Rattle.component_package.specs.Manifest.{StoredRelease, Stores}
 use Rattle.component_package.specs.Store.{slot_at, slots_of}
 use Rattle.component_package.specs.Sides.{Parts, parts_of, is_open, pages_from, fmt, man, sym as sym_gate, rel, img, go_a, go_b, sel, chosen_side, is_pending}
-use Rattle.component_package.specs.Sound.{IsSound, IsAtRest, HasNoCause, HasImage}
+use Rattle.component_package.specs.Sound.{IsSound, HasNoCause, HasImage}
 use Rattle.component_package.specs.Machine.{Mote}
 use Rattle.component_package.specs.Headline.{has_incoming, is_linked, StandsFor}
 use Rattle.mote_laws.specs.Formatted.{blank_prog, formatted_ext, formatted_mote, FormattedIsSound}
@@ -129,14 +127,14 @@ fmt_open page opens = ap (λ n. eqb n 165) opens
 formatted_sound : (page : List ℕ) → get_or page 0 0 ≡ 165 → IsSound (parts_of blank_prog (formatted_ext page))
 formatted_sound page opens =
     alone_sound (parts_of blank_prog (formatted_ext page)) (zero_gate page 0 (omega arith)) (zero_gate page 1 (omega arith)) (zero_gate page 2 (omega arith)) (zero_gate page 3 (omega arith))
-      (zero_gate page 4 (omega arith)) (zero_gate page 5 (omega arith)) (zero_gate page 6 (omega arith)) (fmt_open page opens)
-      (empty_no_cause (slots_of (formatted_ext page)) _ (zero_side page)) (empty_has_image (slots_of (formatted_ext page)) _ (zero_side page))
+    (zero_gate page 4 (omega arith)) (zero_gate page 5 (omega arith)) (zero_gate page 6 (omega arith)) (fmt_open page opens)
+    (empty_no_cause (slots_of (formatted_ext page)) _ (zero_side page)) (empty_has_image (slots_of (formatted_ext page)) _ (zero_side page))
 
 formatted_stands : (page : List ℕ) → get_or page 0 0 ≡ 165 → StandsFor (parts_of blank_prog (formatted_ext page)) formatted_mote
 formatted_stands page opens =
     alone_stands (parts_of blank_prog (formatted_ext page)) (zero_gate page 0 (omega arith)) (zero_gate page 1 (omega arith)) (zero_gate page 2 (omega arith)) (zero_gate page 3 (omega arith))
-      (zero_gate page 4 (omega arith)) (zero_gate page 5 (omega arith)) (zero_gate page 6 (omega arith)) formatted_mote
-      (mote_is (slots_of (formatted_ext page)) (zero_slots page)) (empty_stored _ (zero_side page))
+    (zero_gate page 4 (omega arith)) (zero_gate page 5 (omega arith)) (zero_gate page 6 (omega arith)) formatted_mote
+    (mote_is (slots_of (formatted_ext page)) (zero_slots page)) (empty_stored _ (zero_side page))
 
 pub formatted_is_sound : FormattedIsSound
 formatted_is_sound = record { sound = formatted_sound; stands = formatted_stands }

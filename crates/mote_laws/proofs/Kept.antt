@@ -1,5 +1,5 @@
 -- A slot that a release doesn't use can hold anything: its set stays.
-use Rattle.std.proofs.Common.{◌≡◌, ◌≢◌, ℕ, List, [], ◌∷◌, Bool, true, false, None, map, set, take, sym, ◌∙◌, ap, subst, refl, eqb, get_or-set_other, arith}
+use Rattle.std.proofs.Common.{◌≡◌, ◌≢◌, ℕ, List, [], ◌∷◌, false, map, set, take, sym, ◌∙◌, ap, subst, refl, get_or-set_other, arith}
 use Rattle.std.specs.List.{AllByRecursion}
 use Rattle.sha2.specs.Sha256.{sha256}
 use Rattle.component_package.specs.Grammar.{Spells}

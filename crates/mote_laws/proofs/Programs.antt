@@ -1,14 +1,13 @@
 -- What the parts of a mote become when one page is programmed.
-use Rattle.std.proofs.Common.{◌≡◌, ◌≢◌, ◌&&◌, cond, inl, inr, ◌⊎◌, ⊎_elim, ℕ, zero, suc, ◌+◌, ◌-◌, ◌*◌, ◌<◌, ◌≤◌, Bool, true, false, List, [], ◌∷◌, ◌++◌, length, take, drop, map, set, get_or, eqb, ltb, refl, sym, ap, ◌∙◌, arith, append_assoc, get_or-set_same, get_or-set_other, length-set}
+use Rattle.std.proofs.Common.{◌≡◌, ◌≢◌, ◌&&◌, cond, inl, inr, ◌⊎◌, ⊎_elim, ℕ, zero, suc, ◌+◌, ◌-◌, ◌*◌, ◌<◌, ◌≤◌, List, [], ◌∷◌, ◌++◌, length, take, drop, map, set, get_or, eqb, ltb, refl, sym, ap, ◌∙◌, arith, append_assoc, get_or-set_same, get_or-set_other, length-set}
 use Rattle.std.proofs.lemmas.Bool.Decides.{nat_tests}
 use Rattle.std.proofs.lemmas.List.{drop-set-lt, drop-set-add, take-set-le, same_lists, drop_at}
 use Rattle.std.proofs.lemmas.Bool.{cases_lt, cases_eq, cases_order}
 use Rattle.std.proofs.lemmas.List.FromFn.{length-map-range_with_len, get_or-map-range_with_len}
-use Rattle.std.specs.List.{concat, range_with_len, AllByRecursion}
+use Rattle.std.specs.List.{concat, range_with_len}
 use Rattle.component_package.specs.Store.{slot_at, slots_of}
-use Rattle.component_package.specs.Sides.{is_open, parts_of, pages_from}
-use Rattle.mote_laws.specs.Steps.{with_gate}
-use Rattle.mote_laws.specs.Programs.{IsWholePage, EachPageIsInOnePart, JoinedPageIsPut}
+use Rattle.component_package.specs.Sides.{is_open, pages_from}
+use Rattle.mote_laws.specs.Programs.{EachPageIsInOnePart, JoinedPageIsPut}
 
 drop_set : (n : ℕ) (l : List (List ℕ)) (page i : ℕ) (bytes : List ℕ) → page ≡ n + i → drop n (set l page bytes) ≡ set (drop n l) i bytes
 drop_set n l page i bytes is = ap (λ p. drop n (set l p bytes)) is ∙ drop-set-add n l i bytes
@@ -45,6 +44,7 @@ gate_is ext page bytes g low long = ⊎_elim same other (cases_eq g page)
         let open_as : is_open (set ext page bytes) g ≡ eqb (get_or bytes 0 0) 165 = ap (λ (l : List ℕ). eqb (get_or l 0 0) 165) held in
         let small : g < 8 = omega arith in
         grind (arith, nat_tests)
+
     other : (g ≡ page → ⊥) → (ltb g 8 && is_open (set ext page bytes) g) ≡ cond (eqb g page) (eqb (get_or bytes 0 0) 165) (ltb g 8 && is_open ext g)
     other apart =
         let held : get_or (set ext page bytes) g [] ≡ get_or ext g [] = get_or-set_other ext page g bytes [] apart in
@@ -59,6 +59,7 @@ gate_kept ext page bytes g high = ⊎_elim low past (cases_lt g 8)
     low small =
         let apart : g ≢ page = omega arith in
         ap (λ (l : List ℕ). ltb g 8 && eqb (get_or l 0 0) 165) (get_or-set_other ext page g bytes [] apart)
+
     past : 8 ≤ g → (ltb g 8 && is_open (set ext page bytes) g) ≡ (ltb g 8 && is_open ext g)
     past large = grind (arith, nat_tests)
 
@@ -78,6 +79,7 @@ slots_kept ext page bytes where_it_is = same_lists _ _ lengths each
   where
     lengths : length (map (slot_at (set ext page bytes)) (range_with_len 0 32)) ≡ length (map (slot_at ext) (range_with_len 0 32))
     lengths = length-map-range_with_len (slot_at (set ext page bytes)) 0 32 ∙ sym (length-map-range_with_len (slot_at ext) 0 32)
+
     each : (k : ℕ) (d : List ℕ) → k < length (map (slot_at (set ext page bytes)) (range_with_len 0 32)) → get_or (map (slot_at (set ext page bytes)) (range_with_len 0 32)) k d ≡ get_or (map (slot_at ext) (range_with_len 0 32)) k d
     each k d within =
         let small : k < 32 = omega (arith, length-map-range_with_len (slot_at (set ext page bytes)) 0 32) in
@@ -93,19 +95,21 @@ slots_set ext s i bytes slot_low page_low = same_lists _ _ lengths each
   where
     lengths : length (map (slot_at (set ext (786 + 39 * s + i) bytes)) (range_with_len 0 32)) ≡ length (set (map (slot_at ext) (range_with_len 0 32)) s (concat (set (pages_from (786 + 39 * s) 39 ext) i bytes)))
     lengths = length-map-range_with_len (slot_at (set ext (786 + 39 * s + i) bytes)) 0 32 ∙ sym (length-set (map (slot_at ext) (range_with_len 0 32)) s (concat (set (pages_from (786 + 39 * s) 39 ext) i bytes)) ∙ length-map-range_with_len (slot_at ext) 0 32)
+
     here : slot_at (set ext (786 + 39 * s + i) bytes) s ≡ concat (set (pages_from (786 + 39 * s) 39 ext) i bytes)
     here = ap concat (pages_within (786 + 39 * s) 39 ext (786 + 39 * s + i) bytes (omega arith) (omega arith) ∙ ap (λ j. set (pages_from (786 + 39 * s) 39 ext) j bytes) (let e : (786 + 39 * s + i) - (786 + 39 * s) ≡ i = omega arith in e))
+
     each : (k : ℕ) (d : List ℕ) → k < length (map (slot_at (set ext (786 + 39 * s + i) bytes)) (range_with_len 0 32))
         → get_or (map (slot_at (set ext (786 + 39 * s + i) bytes)) (range_with_len 0 32)) k d ≡ get_or (set (map (slot_at ext) (range_with_len 0 32)) s (concat (set (pages_from (786 + 39 * s) 39 ext) i bytes))) k d
     each k d within =
         let small : k < 32 = omega (arith, length-map-range_with_len (slot_at (set ext (786 + 39 * s + i) bytes)) 0 32) in
         get_or-map-range_with_len (slot_at (set ext (786 + 39 * s + i) bytes)) 0 32 k k d small (omega arith)
         ∙ ⊎_elim
-            (λ same. ap (λ j. slot_at (set ext (786 + 39 * s + i) bytes) j) same ∙ here ∙ sym (ap (λ j. get_or (set (map (slot_at ext) (range_with_len 0 32)) s (concat (set (pages_from (786 + 39 * s) 39 ext) i bytes))) j d) same
-                ∙ get_or-set_same (map (slot_at ext) (range_with_len 0 32)) s (concat (set (pages_from (786 + 39 * s) 39 ext) i bytes)) d (omega (arith, length-map-range_with_len (slot_at ext) 0 32))))
-            (λ apart. slot_apart ext (786 + 39 * s + i) bytes k (⊎_elim (λ below. inr (omega arith)) (λ above. inl (omega arith)) (less_or_more k s apart))
-                ∙ sym (get_or-set_other (map (slot_at ext) (range_with_len 0 32)) s k (concat (set (pages_from (786 + 39 * s) 39 ext) i bytes)) d apart ∙ get_or-map-range_with_len (slot_at ext) 0 32 k k d small (omega arith)))
-            (cases_eq k s)
+        (λ same. ap (λ j. slot_at (set ext (786 + 39 * s + i) bytes) j) same ∙ here ∙ sym (ap (λ j. get_or (set (map (slot_at ext) (range_with_len 0 32)) s (concat (set (pages_from (786 + 39 * s) 39 ext) i bytes))) j d) same
+        ∙ get_or-set_same (map (slot_at ext) (range_with_len 0 32)) s (concat (set (pages_from (786 + 39 * s) 39 ext) i bytes)) d (omega (arith, length-map-range_with_len (slot_at ext) 0 32))))
+        (λ apart. slot_apart ext (786 + 39 * s + i) bytes k (⊎_elim (λ below. inr (omega arith)) (λ above. inl (omega arith)) (less_or_more k s apart))
+        ∙ sym (get_or-set_other (map (slot_at ext) (range_with_len 0 32)) s k (concat (set (pages_from (786 + 39 * s) 39 ext) i bytes)) d apart ∙ get_or-map-range_with_len (slot_at ext) 0 32 k k d small (omega arith)))
+        (cases_eq k s)
 
 pub each_page_is_in_one_part : EachPageIsInOnePart
 each_page_is_in_one_part = record {
@@ -206,8 +210,8 @@ joined_page_is_put (p ∷ pages) (suc i) bytes whole within =
     take_past [] q n m is = ap (λ k. take k q) (let e : n ≡ m = omega arith in e)
     take_past (x ∷ p) q zero m is = absurd (omega arith)
     take_past (x ∷ p) q (suc n) m is = ap (λ (l : List ℕ). x ∷ l) (take_past p q n m (omega arith))
+
     drop_past : (p q : List ℕ) (n m : ℕ) → n ≡ length p + m → drop n (p ++ q) ≡ drop m q
     drop_past [] q n m is = ap (λ k. drop k q) (let e : n ≡ m = omega arith in e)
     drop_past (x ∷ p) q zero m is = absurd (omega arith)
     drop_past (x ∷ p) q (suc n) m is = drop_past p q n m (omega arith)
-

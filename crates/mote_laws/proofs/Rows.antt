@@ -1,16 +1,16 @@
 -- The rows of the mote machine, with what is known where each of them is taken.
-use Rattle.std.proofs.Common.{◌≡◌, ℕ, ◌<◌, Bool, true, false, not, cond, eqb, ltb, ◌+◌, ◌*◌, List, [], ◌∷◌, length, drop, Option, Some, None, is_some, refl, slice_get}
+use Rattle.std.proofs.Common.{◌≡◌, ℕ, ◌<◌, Bool, true, false, not, cond, eqb, ltb, ◌+◌, ◌*◌, List, [], length, drop, Option, Some, None, is_some, refl, slice_get}
 use Rattle.std.specs.Prelude.{slice_index, slice_index_or, slice_set, slice_range}
 use Rattle.std.proofs.lemmas.Bool.{ltb-true, not-false}
 use Rattle.component_package.specs.declared.answer.Answer.{Answer}
 use Rattle.component_package.specs.declared.answer.Answer.TheVariants as answers
 use Rattle.component_package.specs.declared.manifest.ManifestFault.{ManifestFault}
-use Rattle.component_package.specs.Manifest.{Release, StoredRelease, Placed, manifest_fault, number_of_manifest_fault, release_in}
+use Rattle.component_package.specs.Manifest.{StoredRelease, Placed, manifest_fault, number_of_manifest_fault, release_in}
 use Rattle.component_package.specs.Store.{SetFault, Missing, BadPackage, set_fault, components_of, held_slot, is_same, slots_for}
 use Rattle.component_package.specs.Link.{Cause, FlashFull, RamFull, Symbols, Relocations, Duplicate, Undefined, Range, link_cause}
 use Rattle.component_package.specs.Frames.{Frame}
 use Rattle.component_package.specs.FirstMachine.{filled_page}
-use Rattle.component_package.specs.Machine.{Mote, Step, is_bad_frame, unless_standing, is_incoming, incoming_number, status_number, refuses, manifest_is, is_piece_of, with_page_of, cause_answer, take_manifest, take_piece, take_piece_of, store_piece, link_set, link_held, link_incoming, commit_incoming, step}
+use Rattle.component_package.specs.Machine.{Mote, Step, is_bad_frame, unless_standing, is_incoming, incoming_number, status_number, refuses, manifest_is, is_piece_of, with_page_of, cause_answer, take_manifest, take_piece, take_piece_of, link_set, link_held, link_incoming, commit_incoming, step}
 use Rattle.mote_laws.specs.Runs.{is_served}
 
 -- what holds of the step in each row

@@ -1,12 +1,11 @@
 -- What the mote machine keeps, by its rows.
-use Rattle.std.proofs.Common.{◌≡◌, ◌≢◌, ℕ, ◌<◌, ◌&&◌, Bool, true, false, not, cond, List, [], ◌∷◌, length, suc, Option, Some, None, refl, sym, ap, subst, arith}
-use Rattle.std.proofs.lemmas.Bool.{false≢true, both_ways, and_parts, not-true, and_from, not_from_false}
+use Rattle.std.proofs.Common.{◌≡◌, ◌≢◌, ℕ, ◌<◌, ◌&&◌, Bool, true, false, not, cond, List, [], ◌∷◌, length, suc, refl, ap, subst}
+use Rattle.std.proofs.lemmas.Bool.{false≢true, both_ways, and_parts, and_from, not_from_false}
 use Rattle.component_package.specs.declared.answer.Answer.TheVariants as answers
-use Rattle.component_package.specs.Manifest.{StoredRelease, release_in}
 use Rattle.component_package.specs.Frames.{Frame}
-use Rattle.component_package.specs.Machine.{Mote, Step, Chosen, step, commits, mote_from, commits_from, answers_from, boot_frame, chosen_of}
+use Rattle.component_package.specs.Machine.{Mote, Step, step, commits, mote_from, commits_from, answers_from, boot_frame, chosen_of}
 use Rattle.mote_laws.specs.Runs.{is_refusal, RefusalsChangeNothing, is_served, MachineIsTotal, OnlyItsAnswerChanges, IsAbove, IsRising, ReleasesRise, CommitsRise}
-use Rattle.mote_laws.proofs.Rows.{Rows, each_row}
+use Rattle.mote_laws.proofs.Rows.{each_row}
 
 -- ---- refusals
 

@@ -1,20 +1,18 @@
 -- Sets of components in slots: what has no fault is a set, and the other way round.
-use Rattle.std.proofs.Common.{◌≡◌, ⊎_elim, ℕ, zero, suc, ◌+◌, ◌<◌, ◌&&◌, Bool, true, false, not, cond, eqb, List, [], ◌∷◌, length, take, map, get_or, Option, Some, None, refl, sym, ap, ◌∙◌, subst, arith, slice_get}
+use Rattle.std.proofs.Common.{◌≡◌, ⊎_elim, ℕ, zero, suc, ◌<◌, ◌&&◌, Bool, true, false, cond, eqb, List, [], ◌∷◌, length, take, map, get_or, Option, Some, None, refl, sym, ap, ◌∙◌, subst, arith, slice_get}
 use Rattle.std.specs.List.{AllByRecursion}
 use Rattle.std.specs.Option.{option_or, option_map, option_and_then}
-use Rattle.std.proofs.lemmas.Bool.{eqb-true, eq-eqb, and_parts, and_from, both_ways, not-false, not_from_true, cases_eq, cases_lt}
+use Rattle.std.proofs.lemmas.Bool.{eqb-true, eq-eqb, and_parts, and_from, not-false, not_from_true, cases_eq, cases_lt}
 use Rattle.std.proofs.lemmas.Option.{same_Some}
 use Rattle.std.proofs.lemmas.List.{get_or-take, get_or_past, length-take}
-use Rattle.sha2.specs.Sha256.{sha256}
 use Rattle.avr_reloc.specs.Field.{AreBytes}
 use Rattle.component_package.specs.declared.fault.PackageFault.{PackageFault}
-use Rattle.component_package.specs.declared.manifest.Entry.{Entry}
 use Rattle.component_package.specs.Component.{Component}
 use Rattle.component_package.specs.Reading.{first_fault, package_fault, number_of_fault, component_of, header_of}
 use Rattle.component_package.proofs.Laws.{faultless_bytes_spell}
-use Rattle.component_package.specs.Grammar.{IsComponent, Spells}
-use Rattle.component_package.specs.Manifest.{Release, Placed, StoredRelease, IsRelease, Stores}
-use Rattle.component_package.specs.Store.{SetFault, Missing, BadPackage, package_in, HoldsPackage, HasSet, components_of, is_same, is_missing, identity_fault, stored_fault, missing_at, bad_package_at, set_fault, held_slot, slots_for}
+use Rattle.component_package.specs.Grammar.{IsComponent}
+use Rattle.component_package.specs.Manifest.{Placed, StoredRelease, Stores}
+use Rattle.component_package.specs.Store.{Missing, BadPackage, package_in, HoldsPackage, HasSet, is_same, is_missing, identity_fault, stored_fault, missing_at, bad_package_at, set_fault, held_slot, slots_for}
 use Rattle.component_package.specs.Sound.{IsNext}
 use Rattle.mote_laws.specs.Steps.{IsUnused}
 use Rattle.mote_laws.specs.Sets.{AreByteSlots, SetsAreFaultless, OtherSetsStay}
@@ -72,16 +70,20 @@ at_place P (y ∷ xs) (suc k) x all at = at_place P xs k x all.1 at
 
 -- a package of the entry's has no fault
 package_faultless : (store : List (List ℕ)) (p : Placed) → HoldsPackage store p → (is_missing store p ≡ false) × (stored_fault p.entry (package_in store p) ≡ None)
-package_faultless store p holds =
-    (not_from_true _ (subst (λ (d : List ℕ). is_same d p.entry.digest ≡ true) (sym holds.digest) (is_same_itself p.entry.digest)),
-     faultless (package_fault (package_in store p)) (faultless_bytes_spell.faultless (package_in store p) holds.component holds.spelled))
+package_faultless store p holds = (
+  not_from_true _ (subst (λ (d : List ℕ). is_same d p.entry.digest ≡ true) (sym holds.digest) (is_same_itself p.entry.digest)),
+  faultless (package_fault (package_in store p)) (faultless_bytes_spell.faultless (package_in store p) holds.component holds.spelled),
+)
   where
     said : component_of (package_in store p) ≡ holds.component
     said = faultless_bytes_spell.said (package_in store p) holds.component holds.spelled
+
     number : eqb (header_of (package_in store p)).component p.entry.component ≡ true
     number = eq-eqb _ _ (ap (λ (c : Component). c.component) said ∙ holds.number)
+
     version : eqb (header_of (package_in store p)).version p.entry.version ≡ true
     version = eq-eqb _ _ (ap (λ (c : Component). c.version) said ∙ holds.version)
+
     faultless : (fault : Option PackageFault) → fault ≡ None → option_or (option_map number_of_fault fault) (identity_fault p.entry (package_in store p)) ≡ None
     faultless None none = ap (λ (b : Bool). cond b None (Some 13)) (and_from _ _ number version)
     faultless (Some x) none = absurd cc
@@ -99,9 +101,11 @@ faultless_package store p bytes there whole = record {
     parts : (fault : Option PackageFault) → option_or (option_map number_of_fault fault) (identity_fault p.entry (package_in store p)) ≡ None → (fault ≡ None) × (identity_fault p.entry (package_in store p) ≡ None)
     parts None none = (refl, none)
     parts (Some x) none = absurd cc
+
     passes : (b : Bool) → cond {A = Option ℕ} b None (Some 13) ≡ None → b ≡ true
     passes true none = refl
     passes false none = absurd cc
+
     identity : (eqb (header_of (package_in store p)).component p.entry.component && eqb (header_of (package_in store p)).version p.entry.version) ≡ true
     identity = passes _ (parts (package_fault (package_in store p)) whole).1
 
@@ -130,20 +134,25 @@ module _ (store : List (List ℕ)) (m : StoredRelease) where
     where
       faults : (first_fault (missing_at store m) (length m.placed) ≡ None) × (first_fault (bad_package_at store m) (length m.placed) ≡ None)
       faults = neither (first_fault (missing_at store m) (length m.placed)) (first_fault (bad_package_at store m) (length m.placed)) none
+
       one : (k : ℕ) (p : Placed) → k < length m.placed → slice_get m.placed k ≡ Some p → HoldsPackage store p
       one k p within is = faultless_package store p front there whole
         where
           front : AreBytes (package_in store p)
           front i = ⊎_elim (λ low. rw (get_or-take p.entry.length (get_or store p.slot []) i 0 low) (bytes p.slot i))
-            (λ high. rw (get_or_past (take p.entry.length (get_or store p.slot [])) i 0 (omega (arith, length-take p.entry.length (get_or store p.slot [])))) (omega arith)) (cases_lt i p.entry.length)
+              (λ high. rw (get_or_past (take p.entry.length (get_or store p.slot [])) i 0 (omega (arith, length-take p.entry.length (get_or store p.slot [])))) (omega arith)) (cases_lt i p.entry.length)
+
           passes : (b : Bool) → cond b (Some (Missing k)) None ≡ None → b ≡ false
           passes true h = absurd cc
           passes false h = refl
+
           there : is_missing store p ≡ false
           there = passes (is_missing store p) (sym (ap (option_and_then (λ p. cond (is_missing store p) (Some (Missing k)) None)) is) ∙ none_before (missing_at store m) (length m.placed) k faults.0 within)
+
           free : (o : Option ℕ) → option_map (BadPackage k) o ≡ None → o ≡ None
           free None h = refl
           free (Some x) h = absurd cc
+
           whole : stored_fault p.entry (package_in store p) ≡ None
           whole = free (stored_fault p.entry (package_in store p)) (sym (ap (option_and_then (λ p. option_map (BadPackage k) (stored_fault p.entry (package_in store p)))) is) ∙ none_before (bad_package_at store m) (length m.placed) k faults.1 within)
 

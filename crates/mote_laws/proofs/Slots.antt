@@ -5,10 +5,10 @@ use Rattle.std.specs.List.{list_any, range_with_len, AllByRecursion}
 use Rattle.std.specs.Option.{option_map}
 use Rattle.std.proofs.lemmas.List.{length-map}
 use Rattle.std.proofs.lemmas.Option.{same_Some}
-use Rattle.std.proofs.lemmas.Bool.{eqb-true, eq-eqb, both_ways, or_parts, or_from, or_left, or_right, not-true, not-false, cases_Bool, ne_eqb, and_parts}
+use Rattle.std.proofs.lemmas.Bool.{eqb-true, eq-eqb, both_ways, or_parts, or_from, or_left, or_right, cases_Bool, ne_eqb, and_parts}
 use Rattle.component_package.specs.declared.manifest.Entry.{Entry}
-use Rattle.component_package.specs.Manifest.{Release, Placed, StoredRelease, IsManifestEntry, IsRelease, IsStored, AreDistinct, released}
-use Rattle.component_package.specs.Store.{is_same, is_same_entry, held_slot, is_taken, least_free, place_entry, placed_from, slots_for}
+use Rattle.component_package.specs.Manifest.{Release, Placed, StoredRelease, IsManifestEntry, IsRelease, IsStored, AreDistinct}
+use Rattle.component_package.specs.Store.{is_same_entry, held_slot, is_taken, least_free, place_entry, placed_from}
 use Rattle.mote_laws.specs.Steps.{IsUnused}
 use Rattle.mote_laws.specs.Slots.{SlotIsFree, SlotsAreFound}
 
@@ -109,6 +109,7 @@ held_once (p ∷ ps) e f s apart held_e held_f = at (is_same_entry p.entry e) (i
   where
     only : (g : Entry) → p.slot ≡ s → held_in ps g ≡ Some s → ⊥
     only g is held = both_ways (is_taken (map (λ p. p.slot) ps) s) (subst (λ n. is_taken (map (λ p. p.slot) ps) n ≡ false) is apart.0) (held_taken ps g s held)
+
     at : (b c : Bool) → is_same_entry p.entry e ≡ b → is_same_entry p.entry f ≡ c → option_map (λ p. p.slot) (cond b (Some p) (find (λ p. is_same_entry p.entry e) ps)) ≡ Some s
         → option_map (λ p. p.slot) (cond c (Some p) (find (λ p. is_same_entry p.entry f) ps)) ≡ Some s → (held_in ps e ≡ Some s → held_in ps f ≡ Some s → e.component ≡ f.component) → e.component ≡ f.component
     at true true is_e is_f here_e here_f rest = sym (same_component p.entry e is_e) ∙ same_component p.entry f is_f
@@ -147,26 +148,28 @@ later_apart : (m : StoredRelease) (e : Entry) (s : ℕ) (taken : List ℕ) (es :
 later_apart m e s taken [] room given others kind = refl
 later_apart m e s taken (f ∷ es) room given others kind =
     or_from _ _ (head (held_slot m f) refl)
-      (later_apart m e s (place_entry (held_slot m f) taken ∷ taken) es (room_left m taken f es _ room) (or_right (eqb (place_entry (held_slot m f) taken) s) (is_taken taken s) given) (or_parts _ _ others).1 kind)
+    (later_apart m e s (place_entry (held_slot m f) taken ∷ taken) es (room_left m taken f es _ room) (or_right (eqb (place_entry (held_slot m f) taken) s) (is_taken taken s) given) (or_parts _ _ others).1 kind)
   where
     head : (o : Option ℕ) → held_slot m f ≡ o → eqb (place_entry o taken) s ≡ false
     head None is = ne_eqb (least_free taken) s (λ same. both_ways (is_taken taken s) (subst (λ n. is_taken taken n ≡ false) same (free_here m taken f es room).1) given)
     head (Some t) is = ne_eqb t s (λ same. ⊎_elim
-      (λ held. both_ways (eqb f.component e.component) (or_parts _ _ others).0 (eq-eqb f.component e.component (held_once m.placed f e s room.apart (is ∙ ap Some same) held)))
-      (λ unused. both_ways (is_taken (map (λ p. p.slot) m.placed) s) unused (held_taken m.placed f s (is ∙ ap Some same)))
-      kind)
+        (λ held. both_ways (eqb f.component e.component) (or_parts _ _ others).0 (eq-eqb f.component e.component (held_once m.placed f e s room.apart (is ∙ ap Some same) held)))
+        (λ unused. both_ways (is_taken (map (λ p. p.slot) m.placed) s) unused (held_taken m.placed f s (is ∙ ap Some same)))
+        kind)
 
 -- the slots of the entries, no two the same
 placed_apart : (m : StoredRelease) (taken : List ℕ) (es : List Entry) → Room m taken es → AreDistinct (map (λ f. f.component) es) → AreDistinct (map (λ p. p.slot) (placed_from m taken es))
 placed_apart m taken [] room others = tt
-placed_apart m taken (e ∷ es) room others =
-    (later_apart m e (place_entry (held_slot m e) taken) (place_entry (held_slot m e) taken ∷ taken) es (room_left m taken e es _ room)
-       (or_left (eqb (place_entry (held_slot m e) taken) (place_entry (held_slot m e) taken)) _ (eq-eqb (place_entry (held_slot m e) taken) (place_entry (held_slot m e) taken) refl)) others.0 (kind (held_slot m e) refl),
-     placed_apart m (place_entry (held_slot m e) taken ∷ taken) es (room_left m taken e es _ room) others.1)
+placed_apart m taken (e ∷ es) room others = (
+  later_apart m e (place_entry (held_slot m e) taken) (place_entry (held_slot m e) taken ∷ taken) es (room_left m taken e es _ room)
+      (or_left (eqb (place_entry (held_slot m e) taken) (place_entry (held_slot m e) taken)) _ (eq-eqb (place_entry (held_slot m e) taken) (place_entry (held_slot m e) taken) refl)) others.0 (kind (held_slot m e) refl),
+  placed_apart m (place_entry (held_slot m e) taken ∷ taken) es (room_left m taken e es _ room) others.1,
+)
   where
     unused : (s : ℕ) → is_taken taken s ≡ false → (b : Bool) → is_taken (map (λ p. p.slot) m.placed) s ≡ b → b ≡ false
     unused s free true is = absurd (both_ways (is_taken taken s) free (room.own s is))
     unused s free false is = refl
+
     kind : (o : Option ℕ) → held_slot m e ≡ o → (held_slot m e ≡ Some (place_entry o taken)) ⊎ IsUnused m (place_entry o taken)
     kind (Some s) is = inl is
     kind None is = inr (unused (least_free taken) (free_here m taken e es room).1 (is_taken (map (λ p. p.slot) m.placed) (least_free taken)) refl)

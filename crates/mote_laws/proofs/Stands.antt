@@ -1,21 +1,20 @@
 -- The mote that the parts stand for after each step.
-use Rattle.std.proofs.Common.{◌≡◌, ◌≢◌, ℕ, Bool, true, false, cond, eqb, List, set, map, Option, Some, None, is_some, slice_get, refl, sym as flip, ap, ◌∙◌, subst, arith}
-use Rattle.std.proofs.lemmas.Bool.{both_ways, ne_eqb, cases_Bool, false≢true}
+use Rattle.std.proofs.Common.{◌≡◌, ◌≢◌, ℕ, Bool, true, false, cond, List, Option, Some, None, is_some, slice_get, refl, sym as flip, ap, ◌∙◌, subst, arith}
+use Rattle.std.proofs.lemmas.Bool.{both_ways, ne_eqb}
 use Rattle.component_package.specs.declared.answer.Answer.TheVariants as answers
 use Rattle.component_package.specs.Component.{Component}
 use Rattle.component_package.specs.Manifest.{StoredRelease, Placed, Stores}
 use Rattle.component_package.specs.Store.{components_of, held_slot}
 use Rattle.component_package.specs.Sides.{Parts, man, sym, rel, img, go_a, go_b, sel, is_on_b, chosen_side, other_side, is_pending}
 use Rattle.component_package.specs.Sound.{IsSound}
-use Rattle.component_package.specs.Frames.{Frame}
-use Rattle.component_package.specs.Machine.{Mote, Step, Chosen, chosen_of, step}
+use Rattle.component_package.specs.Machine.{Mote, Chosen, chosen_of, step}
 use Rattle.component_package.specs.Headline.{has_incoming, is_linked, StandsForIncoming, StandsFor, Chooses}
 use Rattle.mote_laws.specs.Steps.{with_gate, with_other_side, other_go, chosen_go, IsUnused}
 use Rattle.mote_laws.specs.Stands.{ChoiceIsTheMotes, OnlyCommitsChoose, RestingStepsStand, commit_frame, CutCommitIsWhole, IsOther, StandingStepsStand}
-use Rattle.mote_laws.proofs.Rows.{Rows, each_row}
+use Rattle.mote_laws.proofs.Rows.{each_row}
 use Rattle.mote_laws.proofs.Kept.{components_kept}
 use Rattle.mote_laws.proofs.Sets.{other_sets_stay}
-use Rattle.mote_laws.proofs.Stored.{stores_one, man_open, comes_next}
+use Rattle.mote_laws.proofs.Stored.{stores_one, comes_next}
 
 -- ---- what is chosen
 
@@ -51,7 +50,7 @@ only_commits_choose p s f sound stands = each_row s f (λ x. ((n : ℕ) → x.an
   booted = λ other. refl;
   manifest = λ calm whole above other. refl;
   piece = λ m q k page bytes calm is at new fits other.
-    ap (λ (set : List Component). let c : Chosen = record { release = s.current; set = set } in c) (components_kept s.store q.slot _ s.current (piece_apart p s m q k sound stands is at new));
+      ap (λ (set : List Component). let c : Chosen = record { release = s.current; set = set } in c) (components_kept s.store q.slot _ s.current (piece_apart p s m q k sound stands is at new));
   linked = λ m calm is unlinked whole free other. refl;
   committed = λ m calm is linked other. absurd (other m.number refl);
   aborted = λ calm other. refl;
@@ -213,7 +212,7 @@ gate_unseen p s gate b stands pending other =
 
 finished_shows : (p : Parts) → IsSound p → is_pending p ≡ true → p.gates sel ≡ is_on_b p → p.gates img ≡ false → p.gates man ≡ false
     → (chosen_side (with_gate (chosen_go p) false p) ≡ chosen_side p) × (has_incoming (with_gate (chosen_go p) false p) ≡ false) × (is_linked (with_gate (chosen_go p) false p) ≡ false)
-        × (is_pending (with_gate (chosen_go p) false p) ≡ false)
+    × (is_pending (with_gate (chosen_go p) false p) ≡ false)
 finished_shows p sound pending at no_img no_man = (grind arith, grind arith, grind arith, grind arith)
 
 finished : (p : Parts) (s : Mote) → IsSound p → StandsFor p s → is_pending p ≡ true → p.gates sel ≡ is_on_b p → p.gates img ≡ false → p.gates man ≡ false

@@ -2,12 +2,11 @@
 use Rattle.std.proofs.Common.{◌≡◌, ℕ, List, Bool, true, false, set, refl, sym as flip, ap, ◌∙◌, subst, arith}
 use Rattle.component_package.specs.Manifest.{StoredRelease, Stores}
 use Rattle.component_package.specs.Store.{components_of}
-use Rattle.component_package.specs.Component.{Component}
-use Rattle.component_package.specs.Sides.{Parts, man, sym, rel, img, go_a, go_b, sel, is_on_b, chosen_side, other_side, is_pending}
+use Rattle.component_package.specs.Sides.{Parts, man, sym, rel, img, sel, is_on_b, chosen_side, other_side, is_pending}
 use Rattle.component_package.specs.Sound.{IsSound, HoldsSet, HasNoCause, HasLateCause, HasTable, HasList, HasImage, IsNext}
 use Rattle.component_package.specs.Machine.{Chosen}
 use Rattle.component_package.specs.Headline.{Chooses}
-use Rattle.mote_laws.specs.Steps.{with_gate, with_other_side, other_go, chosen_go, Keeps, HasOther, IsUnused, ClosingKeeps, WritingKeeps, SlotWritingKeeps, OpeningKeeps, Commits, CommitIsWhole, SelectingKeeps, FinishingKeeps}
+use Rattle.mote_laws.specs.Steps.{with_gate, with_other_side, other_go, chosen_go, ClosingKeeps, WritingKeeps, SlotWritingKeeps, OpeningKeeps, CommitIsWhole, SelectingKeeps, FinishingKeeps}
 use Rattle.mote_laws.proofs.Kept.{no_cause_kept, image_kept, components_kept}
 
 -- the same side and the same components choose the same
@@ -82,11 +81,11 @@ opens_man : (p : Parts) (b : Bool) → IsSound p → is_pending p ≡ false → 
 opens_man p b sound calm shut next = grind arith
 
 opens_sym : (p : Parts) (b : Bool) → IsSound p → is_pending p ≡ false → p.gates sym ≡ false → p.gates man ≡ true → HoldsSet p.slots (other_side p)
-      → HasLateCause p.slots (other_side p) → HasTable p.slots (other_side p) p.symbols → IsSound (with_gate sym b p)
+    → HasLateCause p.slots (other_side p) → HasTable p.slots (other_side p) p.symbols → IsSound (with_gate sym b p)
 opens_sym p b sound calm shut man_open set cause table = grind arith
 
 opens_rel : (p : Parts) (b : Bool) → IsSound p → is_pending p ≡ false → p.gates rel ≡ false → p.gates sym ≡ true → HasNoCause p.slots (other_side p)
-      → HasList p.slots (other_side p) p.relocs → IsSound (with_gate rel b p)
+    → HasList p.slots (other_side p) p.relocs → IsSound (with_gate rel b p)
 opens_rel p b sound calm shut merged cause list = grind arith
 
 opens_img : (p : Parts) (b : Bool) → IsSound p → is_pending p ≡ false → p.gates img ≡ false → p.gates rel ≡ true → HasImage p.slots (other_side p) p.staged → IsSound (with_gate img b p)

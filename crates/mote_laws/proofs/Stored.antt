@@ -1,5 +1,5 @@
 -- Two readings of one list of bytes are the same release.
-use Rattle.std.proofs.Common.{◌≡◌, ℕ, ◌+◌, ◌*◌, ◌/◌, ◌%◌, ◌<◌, ◌-◌, Bool, true, false, cond, List, [], ◌∷◌, ◌++◌, length, drop, map, get_or, replicate, Option, Some, None, refl, sym, ap, ◌∙◌, subst, arith, append_assoc}
+use Rattle.std.proofs.Common.{◌≡◌, ℕ, ◌*◌, ◌/◌, ◌%◌, ◌<◌, ◌-◌, Bool, true, false, cond, List, [], ◌∷◌, ◌++◌, length, drop, get_or, replicate, Option, Some, None, refl, sym, ap, ◌∙◌, arith, append_assoc}
 use Rattle.std.specs.List.{flat_map, AllByRecursion}
 use Rattle.std.proofs.lemmas.Bool.{both_ways}
 use Rattle.component_package.specs.declared.manifest.Entry.{Entry}
@@ -42,7 +42,7 @@ entry_one e f x y good_e good_f same =
 placed_one : (p q : Placed) (x y : List ℕ) → IsManifestEntry p.entry → IsManifestEntry q.entry → placed_bytes p ++ x ≡ placed_bytes q ++ y → (p ≡ q) × (x ≡ y)
 placed_one p q x y good_p good_q same =
     let parts = entry_one p.entry q.entry ((p.slot ∷ replicate 25 0) ++ x) ((q.slot ∷ replicate 25 0) ++ y) good_p good_q
-      (sym (append_assoc (manifest_entry_bytes p.entry) (p.slot ∷ replicate 25 0) x) ∙ same ∙ append_assoc (manifest_entry_bytes q.entry) (q.slot ∷ replicate 25 0) y) in
+    (sym (append_assoc (manifest_entry_bytes p.entry) (p.slot ∷ replicate 25 0) x) ∙ same ∙ append_assoc (manifest_entry_bytes q.entry) (q.slot ∷ replicate 25 0) y) in
     let slot : p.slot ≡ q.slot = ap (λ (l : List ℕ). get_or l 0 0) parts.1 in
     ((λ i. record { entry = parts.0 i; slot = slot i }), ap (λ (l : List ℕ). drop 26 l) parts.1)
 
@@ -123,9 +123,10 @@ stands_for_incoming p sound true is = let next = next_release (chosen_side p) (o
 stands_for_some : (p : Parts) → IsSound p → (s : Mote) × StandsFor p s
 stands_for_some p sound =
     let current = chosen_release p.slots (chosen_side p) sound.chosen in
-    let incoming = stands_for_incoming p sound (has_incoming p) refl in
-    (record { current = current.0; incoming = incoming.0; store = p.slots; linked = is_linked p; standing = is_pending p },
-     record { current = current.1; incoming = incoming.1; store = refl; linked = refl; standing = refl })
+    let incoming = stands_for_incoming p sound (has_incoming p) refl in (
+      record { current = current.0; incoming = incoming.0; store = p.slots; linked = is_linked p; standing = is_pending p },
+      record { current = current.1; incoming = incoming.1; store = refl; linked = refl; standing = refl },
+    )
 
 is_rising : (p : Parts) (s : Mote) → IsSound p → StandsFor p s → IsRising s
 is_rising p s sound stands = at s.incoming stands.incoming

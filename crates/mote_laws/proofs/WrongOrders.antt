@@ -1,13 +1,12 @@
 -- What wrong orders would leave: each of these is refused.
-use Rattle.std.proofs.Common.{◌≡◌, ◌≢◌, ⊎_elim, ℕ, zero, suc, ◌<◌, Bool, true, false, List, [], ◌∷◌, length, map, set, take, get_or, replicate, None, refl, ap, ◌∙◌, subst, arith}
+use Rattle.std.proofs.Common.{◌≡◌, ◌≢◌, ⊎_elim, ℕ, zero, suc, ◌<◌, true, false, List, [], ◌∷◌, length, map, set, take, get_or, replicate, refl, ap, ◌∙◌, subst, arith}
 use Rattle.std.proofs.lemmas.Bool.{cases_lt}
 use Rattle.std.proofs.lemmas.List.{get_or-set_same, get_or_past, length-set}
 use Rattle.component_package.specs.declared.manifest.Entry.{Entry}
-use Rattle.component_package.specs.Manifest.{Release, Placed, StoredRelease, Stores}
+use Rattle.component_package.specs.Manifest.{Placed, StoredRelease}
 use Rattle.component_package.specs.Store.{package_in, HoldsPackage, slots_for}
 use Rattle.component_package.specs.Sides.{Parts, man, sym as sym_gate, rel, img, go_a, go_b, sel, chosen_side, other_side, is_pending}
 use Rattle.component_package.specs.Sound.{IsSound, IsNext}
-use Rattle.component_package.specs.Machine.{Chosen}
 use Rattle.mote_laws.specs.Steps.{with_gate, with_other_side}
 use Rattle.mote_laws.specs.Runs.{ReleasesRise}
 
@@ -46,6 +45,7 @@ spoilt_side p calm stands sound = none_next (chosen_side p) (subst (IsNext (chos
   where
     chosen_is : (p : Parts) → chosen_side (with_other_side [] p) ≡ chosen_side p
     chosen_is p = grind arith
+
     other_is : (p : Parts) → other_side (with_other_side [] p) ≡ []
     other_is p = grind arith
 

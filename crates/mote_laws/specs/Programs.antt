@@ -1,5 +1,5 @@
 -- What the parts of a mote become when one page of its flashes is programmed, to whatever bytes.
-use Rattle.std.specs.Prelude.{◌≡◌, ℕ, ◌+◌, ◌-◌, ◌*◌, ◌<◌, ◌≤◌, ◌==◌, List, ◌++◌, length, take, drop, slice_index, slice_index_or, slice_set}
+use Rattle.std.specs.Prelude.{◌≡◌, ℕ, ◌+◌, ◌-◌, ◌*◌, ◌<◌, ◌≤◌, ◌==◌, List, ◌++◌, length, take, drop, slice_index, slice_set}
 use Rattle.std.specs.List.{concat, AllByRecursion}
 use Rattle.component_package.specs.Store.{slots_of}
 use Rattle.component_package.specs.Sides.{parts_of, pages_from}

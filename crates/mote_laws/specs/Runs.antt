@@ -1,10 +1,10 @@
 -- What the mote machine keeps, step by step and over a session.
-use Rattle.std.specs.Prelude.{◌≡◌, ◌≢◌, ◌⊎◌, ℕ, ◌<◌, Bool, true, false, List, [], ◌∷◌, length, Option, Some, None}
+use Rattle.std.specs.Prelude.{◌≡◌, ◌≢◌, ℕ, ◌<◌, Bool, true, false, List, [], ◌∷◌, length, Option, Some, None}
 use Rattle.component_package.specs.declared.answer.Answer.{Answer}
 use Rattle.component_package.specs.declared.answer.Answer.TheVariants as answers
 use Rattle.component_package.specs.Manifest.{StoredRelease}
 use Rattle.component_package.specs.Frames.{Frame}
-use Rattle.component_package.specs.Machine.{Mote, Chosen, step, commits, mote_from, commits_from, boot_frame, session_mote, session_commits, session_answers}
+use Rattle.component_package.specs.Machine.{Mote, Chosen, step, boot_frame, session_mote, session_commits, session_answers}
 
 -- ---- refusals
 

@@ -1,5 +1,5 @@
 -- Which mote of the machine the parts stand for after each step of the journal, and what boots.
-use Rattle.std.specs.Prelude.{◌≡◌, ◌≢◌, ℕ, Bool, true, false, List, [], slice_set, if◌then◌else◌, Some, None}
+use Rattle.std.specs.Prelude.{◌≡◌, ◌≢◌, ℕ, Bool, true, false, List, [], if◌then◌else◌, Some, None}
 use Rattle.component_package.specs.declared.answer.Answer.TheVariants as answers
 use Rattle.component_package.specs.Manifest.{StoredRelease, Stores}
 use Rattle.component_package.specs.Sides.{Parts, man, sym, rel, img, go_a, go_b, sel, is_on_b, other_side, is_pending}
@@ -7,7 +7,7 @@ use Rattle.component_package.specs.Sound.{IsSound}
 use Rattle.component_package.specs.Frames.{Frame}
 use Rattle.component_package.specs.Machine.{Mote, Chosen, chosen_of, step}
 use Rattle.component_package.specs.Headline.{StandsFor, Chooses}
-use Rattle.mote_laws.specs.Steps.{with_gate, with_other_side, other_go, chosen_go, IsUnused}
+use Rattle.mote_laws.specs.Steps.{with_gate, with_other_side, other_go, chosen_go}
 
 -- ---- what is chosen
 

@@ -10,6 +10,7 @@ ghost use Rattle.mote_laws.specs.Slots.{SlotIsFree, SlotsAreFound};
 ghost use Rattle.mote_laws.specs.Stored.{BytesAreOneRelease, PartsStandForOne};
 ghost use Rattle.mote_laws.specs.Formatted.{FormattedIsSound};
 ghost use Rattle.mote_laws.specs.Sets.{SetsAreFaultless, OtherSetsStay};
+ghost use Rattle.mote_laws.specs.Stands.{ChoiceIsTheMotes, OnlyCommitsChoose, RestingStepsStand, CutCommitIsWhole, StandingStepsStand};
 
 /// Closing Img, Rel, Sym and Man, in this order, keeps a mote sound and what it chooses.
 pub fn closing_keeps()
@@ -109,4 +110,29 @@ pub fn sets_are_faultless()
 /// A slot that a release doesn't use may become anything: its set stays. An entry that isn't held has such a slot.
 pub fn other_sets_stay()
     ensures { OtherSetsStay }
+{}
+
+/// Parts choose what their mote boots, and nothing else.
+pub fn choice_is_the_motes()
+    ensures { ChoiceIsTheMotes }
+{}
+
+/// What a sound mote boots changes at `committed` alone, whatever frame comes.
+pub fn only_commits_choose()
+    ensures { OnlyCommitsChoose }
+{}
+
+/// The mote that the parts stand for after each step of the journal where no commit stands.
+pub fn resting_steps_stand()
+    ensures { RestingStepsStand }
+{}
+
+/// A cut in a commit leaves parts that stand for the mote after it or before it.
+pub fn cut_commit_is_whole()
+    ensures { CutCommitIsWhole }
+{}
+
+/// Nothing of a boot's steps is seen until the Go gate is closed, and then no commit stands.
+pub fn standing_steps_stand()
+    ensures { StandingStepsStand }
 {}
