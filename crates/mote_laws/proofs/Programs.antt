@@ -1,12 +1,12 @@
 -- What the parts of a mote become when one page is programmed.
-use Rattle.std.proofs.Common.{◌≡◌, ◌≢◌, ◌&&◌, cond, inl, inr, ◌⊎◌, ⊎_elim, ℕ, zero, suc, ◌+◌, ◌-◌, ◌*◌, ◌<◌, ◌≤◌, List, [], ◌∷◌, ◌++◌, length, take, drop, map, set, get_or, eqb, ltb, refl, sym, ap, ◌∙◌, arith, append_assoc, get_or-set_same, get_or-set_other, length-set}
+use Rattle.std.proofs.Common.{Bool, true, false, cond, ◌≡◌, ◌≢◌, ◌&&◌, inl, inr, ◌⊎◌, ⊎_elim, ℕ, zero, suc, ◌+◌, ◌-◌, ◌*◌, ◌<◌, ◌≤◌, List, [], ◌∷◌, ◌++◌, length, take, drop, map, set, get_or, eqb, ltb, refl, sym, ap, ◌∙◌, arith, append_assoc, get_or-set_same, get_or-set_other, length-set}
 use Rattle.std.proofs.lemmas.Bool.Decides.{nat_tests}
 use Rattle.std.proofs.lemmas.List.{drop-set-lt, drop-set-add, take-set-le, same_lists, drop_at}
 use Rattle.std.proofs.lemmas.Bool.{cases_lt, cases_eq, cases_order}
 use Rattle.std.proofs.lemmas.List.FromFn.{length-map-range_with_len, get_or-map-range_with_len}
 use Rattle.std.specs.List.{concat, range_with_len}
 use Rattle.component_package.specs.Store.{slot_at, slots_of}
-use Rattle.component_package.specs.Sides.{is_open, pages_from}
+use Rattle.component_package.specs.Sides.{is_open, is_on_b, parts_of, pages_from}
 use Rattle.mote_laws.specs.Programs.{EachPageIsInOnePart, JoinedPageIsPut}
 
 drop_set : (n : ℕ) (l : List (List ℕ)) (page i : ℕ) (bytes : List ℕ) → page ≡ n + i → drop n (set l page bytes) ≡ set (drop n l) i bytes
@@ -111,6 +111,46 @@ slots_set ext s i bytes slot_low page_low = same_lists _ _ lengths each
         ∙ sym (get_or-set_other (map (slot_at ext) (range_with_len 0 32)) s k (concat (set (pages_from (786 + 39 * s) 39 ext) i bytes)) d apart ∙ get_or-map-range_with_len (slot_at ext) 0 32 k k d small (omega arith)))
         (cases_eq k s)
 
+-- a page of either side
+in_side_a : (prog ext : List (List ℕ)) (page : ℕ) (bytes : List ℕ) → 8 ≤ page → page < 13
+    → parts_of prog (set ext page bytes) ≡ record (parts_of prog ext) { side_a = concat (set (pages_from 8 5 ext) (page - 8) bytes) }
+in_side_a prog ext page bytes from to = λ x. record {
+  gates = λ g. gate_kept ext page bytes g from x;
+  prog = prog;
+  side_a = concat (pages_within 8 5 ext page bytes from to x);
+  side_b = concat (pages_before 13 5 ext page bytes to x);
+  symbols = concat (pages_before 18 32 ext page bytes (omega arith) x);
+  relocs = concat (pages_before 50 256 ext page bytes (omega arith) x);
+  staged = pages_before 306 480 ext page bytes (omega arith) x;
+  slots = slots_kept ext page bytes (inl (omega arith)) x;
+}
+
+in_side_b : (prog ext : List (List ℕ)) (page : ℕ) (bytes : List ℕ) → 13 ≤ page → page < 18
+    → parts_of prog (set ext page bytes) ≡ record (parts_of prog ext) { side_b = concat (set (pages_from 13 5 ext) (page - 13) bytes) }
+in_side_b prog ext page bytes from to = λ x. record {
+  gates = λ g. gate_kept ext page bytes g (omega arith) x;
+  prog = prog;
+  side_a = concat (pages_behind 8 5 ext page bytes from x);
+  side_b = concat (pages_within 13 5 ext page bytes from to x);
+  symbols = concat (pages_before 18 32 ext page bytes to x);
+  relocs = concat (pages_before 50 256 ext page bytes (omega arith) x);
+  staged = pages_before 306 480 ext page bytes (omega arith) x;
+  slots = slots_kept ext page bytes (inl (omega arith)) x;
+}
+
+-- and of the one that isn't chosen
+in_either : (prog ext : List (List ℕ)) (b : Bool) (i : ℕ) (bytes : List ℕ) → i < 5
+    → parts_of prog (set ext (cond b 8 13 + i) bytes) ≡ record (parts_of prog ext) {
+      side_a = cond b (concat (set (pages_from (cond b 8 13) 5 ext) i bytes)) (concat (pages_from 8 5 ext));
+      side_b = cond b (concat (pages_from 13 5 ext)) (concat (set (pages_from (cond b 8 13) 5 ext) i bytes));
+    }
+in_either prog ext true i bytes low =
+    let place : (8 + i) - 8 ≡ i = omega arith in
+    in_side_a prog ext (8 + i) bytes (omega arith) (omega arith) ∙ ap (λ k. record (parts_of prog ext) { side_a = concat (set (pages_from 8 5 ext) k bytes) }) place
+in_either prog ext false i bytes low =
+    let place : (13 + i) - 13 ≡ i = omega arith in
+    in_side_b prog ext (13 + i) bytes (omega arith) (omega arith) ∙ ap (λ k. record (parts_of prog ext) { side_b = concat (set (pages_from 13 5 ext) k bytes) }) place
+
 pub each_page_is_in_one_part : EachPageIsInOnePart
 each_page_is_in_one_part = record {
   gate = λ prog ext page bytes low long. λ x. record {
@@ -123,26 +163,9 @@ each_page_is_in_one_part = record {
     staged = pages_before 306 480 ext page bytes (omega arith) x;
     slots = slots_kept ext page bytes (inl (omega arith)) x;
   };
-  side_a = λ prog ext page bytes from to. λ x. record {
-    gates = λ g. gate_kept ext page bytes g from x;
-    prog = prog;
-    side_a = concat (pages_within 8 5 ext page bytes from to x);
-    side_b = concat (pages_before 13 5 ext page bytes to x);
-    symbols = concat (pages_before 18 32 ext page bytes (omega arith) x);
-    relocs = concat (pages_before 50 256 ext page bytes (omega arith) x);
-    staged = pages_before 306 480 ext page bytes (omega arith) x;
-    slots = slots_kept ext page bytes (inl (omega arith)) x;
-  };
-  side_b = λ prog ext page bytes from to. λ x. record {
-    gates = λ g. gate_kept ext page bytes g (omega arith) x;
-    prog = prog;
-    side_a = concat (pages_behind 8 5 ext page bytes from x);
-    side_b = concat (pages_within 13 5 ext page bytes from to x);
-    symbols = concat (pages_before 18 32 ext page bytes to x);
-    relocs = concat (pages_before 50 256 ext page bytes (omega arith) x);
-    staged = pages_before 306 480 ext page bytes (omega arith) x;
-    slots = slots_kept ext page bytes (inl (omega arith)) x;
-  };
+  side_a = in_side_a;
+  side_b = in_side_b;
+  other = λ prog ext i bytes low. in_either prog ext (is_on_b (parts_of prog ext)) i bytes low;
   symbols = λ prog ext page bytes from to. λ x. record {
     gates = λ g. gate_kept ext page bytes g (omega arith) x;
     prog = prog;

@@ -9,6 +9,8 @@ use Rattle.avr_reloc.specs.Field.{AreBytes}
 use Rattle.component_package.specs.declared.fault.PackageFault.{PackageFault}
 use Rattle.component_package.specs.Component.{Component}
 use Rattle.component_package.specs.Reading.{first_fault, package_fault, number_of_fault, component_of, header_of}
+use Rattle.component_package.proofs.First.{none_or, no_fault, none_first}
+use Rattle.component_package.proofs.Lists.{all_at}
 use Rattle.component_package.proofs.Laws.{faultless_bytes_spell}
 use Rattle.component_package.specs.Grammar.{IsComponent}
 use Rattle.component_package.specs.Manifest.{Placed, StoredRelease, Stores}
@@ -20,7 +22,7 @@ use Rattle.mote_laws.proofs.Kept.{set_kept, components_kept}
 use Rattle.mote_laws.proofs.Slots.{slots_are_found}
 use Rattle.mote_laws.proofs.Stored.{stores_one}
 
--- ---- tests and first faults
+-- ---- tests
 
 -- two lists are the same exactly where the test says so
 pub same_lists_are : (xs ys : List ℕ) → is_same xs ys ≡ true → xs ≡ ys
@@ -37,34 +39,10 @@ pub is_same_itself : (xs : List ℕ) → is_same xs xs ≡ true
 is_same_itself [] = refl
 is_same_itself (x ∷ xs) = and_from (eqb x x) (is_same xs xs) (eq-eqb x x refl) (is_same_itself xs)
 
-neither : {F : Type 0} (a b : Option F) → option_or a b ≡ None → (a ≡ None) × (b ≡ None)
-neither None b none = (refl, none)
-neither (Some x) b none = absurd cc
-
--- no first fault, and no fault anywhere
-none_anywhere : {F : Type 0} (f : ℕ → Option F) (n : ℕ) → ((k : ℕ) → f k ≡ None) → first_fault f n ≡ None
-none_anywhere f zero each = refl
-none_anywhere f (suc n) each = rw (none_anywhere f n each, each n) refl
-
-pub none_before : {F : Type 0} (f : ℕ → Option F) (n k : ℕ) → first_fault f n ≡ None → k < n → f k ≡ None
-none_before f zero k none within = absurd (omega arith)
-none_before f (suc n) k none within =
-    let parts = neither (first_fault f n) (f n) none in
-    ⊎_elim (λ same. ap f same ∙ parts.1) (λ apart. none_before f n k parts.0 (below n k within apart)) (cases_eq k n)
-  where
-    below : (n k : ℕ) → k < suc n → (k ≡ n → ⊥) → k < n
-    below n k within apart = ⊎_elim (λ h. h) (λ h. absurd (apart (omega arith))) (cases_lt k n)
-
 -- what holds at each place holds of all
 all_by_places : {X : Type 0} (P : X → Type 0) (xs : List X) → ((k : ℕ) (x : X) → k < length xs → slice_get xs k ≡ Some x → P x) → AllByRecursion P xs
 all_by_places P [] each = tt
 all_by_places P (x ∷ xs) each = (each 0 x (omega arith) refl, all_by_places P xs (λ k y within at. each (suc k) y (omega arith) at))
-
--- and the other way round
-at_place : {X : Type 0} (P : X → Type 0) (xs : List X) (k : ℕ) (x : X) → AllByRecursion P xs → slice_get xs k ≡ Some x → P x
-at_place P [] k x all at = absurd cc
-at_place P (y ∷ xs) zero x all at = subst P (same_Some y x at) all.0
-at_place P (y ∷ xs) (suc k) x all at = at_place P xs k x all.1 at
 
 -- ---- one entry
 
@@ -117,23 +95,23 @@ module _ (store : List (List ℕ)) (m : StoredRelease) where
     where
       at : (o : Option Placed) → slice_get m.placed k ≡ o → option_and_then (λ p. cond (is_missing store p) (Some (Missing k)) None) o ≡ None
       at None is = refl
-      at (Some p) is = ap (λ (b : Bool). cond b (Some (Missing k)) None) (package_faultless store p (at_place (HoldsPackage store) m.placed k p has is)).0
+      at (Some p) is = ap (λ (b : Bool). cond b (Some (Missing k)) None) (package_faultless store p (all_at (HoldsPackage store) m.placed k p has is)).0
 
   no_bad : HasSet store m → (k : ℕ) → bad_package_at store m k ≡ None
   no_bad has k = at (slice_get m.placed k) refl
     where
       at : (o : Option Placed) → slice_get m.placed k ≡ o → option_and_then (λ p. option_map (BadPackage k) (stored_fault p.entry (package_in store p))) o ≡ None
       at None is = refl
-      at (Some p) is = ap (option_map (BadPackage k)) (package_faultless store p (at_place (HoldsPackage store) m.placed k p has is)).1
+      at (Some p) is = ap (option_map (BadPackage k)) (package_faultless store p (all_at (HoldsPackage store) m.placed k p has is)).1
 
   set_faultless : HasSet store m → set_fault store m ≡ None
-  set_faultless has = rw (none_anywhere (missing_at store m) (length m.placed) (no_missing has)) (none_anywhere (bad_package_at store m) (length m.placed) (no_bad has))
+  set_faultless has = rw (none_first (missing_at store m) (length m.placed) (λ k within. no_missing has k)) (none_first (bad_package_at store m) (length m.placed) (λ k within. no_bad has k))
 
   faultless_set : AreByteSlots store → set_fault store m ≡ None → HasSet store m
   faultless_set bytes none = all_by_places (HoldsPackage store) m.placed one
     where
       faults : (first_fault (missing_at store m) (length m.placed) ≡ None) × (first_fault (bad_package_at store m) (length m.placed) ≡ None)
-      faults = neither (first_fault (missing_at store m) (length m.placed)) (first_fault (bad_package_at store m) (length m.placed)) none
+      faults = none_or (first_fault (missing_at store m) (length m.placed)) (first_fault (bad_package_at store m) (length m.placed)) none
 
       one : (k : ℕ) (p : Placed) → k < length m.placed → slice_get m.placed k ≡ Some p → HoldsPackage store p
       one k p within is = faultless_package store p front there whole
@@ -147,14 +125,14 @@ module _ (store : List (List ℕ)) (m : StoredRelease) where
           passes false h = refl
 
           there : is_missing store p ≡ false
-          there = passes (is_missing store p) (sym (ap (option_and_then (λ p. cond (is_missing store p) (Some (Missing k)) None)) is) ∙ none_before (missing_at store m) (length m.placed) k faults.0 within)
+          there = passes (is_missing store p) (sym (ap (option_and_then (λ p. cond (is_missing store p) (Some (Missing k)) None)) is) ∙ no_fault (missing_at store m) (length m.placed) k faults.0 within)
 
           free : (o : Option ℕ) → option_map (BadPackage k) o ≡ None → o ≡ None
           free None h = refl
           free (Some x) h = absurd cc
 
           whole : stored_fault p.entry (package_in store p) ≡ None
-          whole = free (stored_fault p.entry (package_in store p)) (sym (ap (option_and_then (λ p. option_map (BadPackage k) (stored_fault p.entry (package_in store p)))) is) ∙ none_before (bad_package_at store m) (length m.placed) k faults.1 within)
+          whole = free (stored_fault p.entry (package_in store p)) (sym (ap (option_and_then (λ p. option_map (BadPackage k) (stored_fault p.entry (package_in store p)))) is) ∙ no_fault (bad_package_at store m) (length m.placed) k faults.1 within)
 
 -- the components of a set are the grammar's
 are_components : (store : List (List ℕ)) (ps : List Placed) → AllByRecursion (HoldsPackage store) ps → AllByRecursion IsComponent (map (λ p. component_of (package_in store p)) ps)

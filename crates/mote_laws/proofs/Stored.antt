@@ -9,33 +9,20 @@ use Rattle.component_package.specs.Sides.{Parts, chosen_side, other_side, is_pen
 use Rattle.component_package.specs.Sound.{IsSound, HasNoCause, IsNext}
 use Rattle.component_package.specs.Machine.{Mote}
 use Rattle.component_package.specs.Headline.{has_incoming, is_linked, StandsForIncoming, StandsFor}
+use Rattle.component_package.proofs.Unique.{split_same, digits}
 use Rattle.mote_laws.specs.Runs.{IsAbove, IsRising}
 use Rattle.mote_laws.specs.Stored.{BytesAreOneRelease, PartsStandForOne}
 
--- lists that begin alike and are as long
-split_same : (a b x y : List ℕ) → length a ≡ length b → a ++ x ≡ b ++ y → (a ≡ b) × (x ≡ y)
-split_same [] [] x y h e = (refl, e)
-split_same [] (v ∷ b) x y h e = absurd (omega arith)
-split_same (u ∷ a) [] x y h e = absurd (omega arith)
-split_same (u ∷ a) (v ∷ b) x y h e =
-    let hd : u ≡ v = cc in
-    let tl : a ++ x ≡ b ++ y = cc in
-    let r = split_same a b x y (omega arith) tl in
-    ((let p : a ≡ b = r.0 in cc), r.1)
-
 -- a number is its digits
-two_digits : (m n : ℕ) → m % 256 ≡ n % 256 → m / 256 ≡ n / 256 → m ≡ n
-two_digits m n p q = omega arith
-
 four_digits : (m n : ℕ) → m % 256 ≡ n % 256 → m / 256 % 256 ≡ n / 256 % 256 → m / 65536 % 256 ≡ n / 65536 % 256 → m / 16777216 ≡ n / 16777216 → m ≡ n
 four_digits m n p q r s = omega arith
 
 -- the first entry is the same, and so is what follows it
 entry_one : (e f : Entry) (x y : List ℕ) → IsManifestEntry e → IsManifestEntry f → manifest_entry_bytes e ++ x ≡ manifest_entry_bytes f ++ y → (e ≡ f) × (x ≡ y)
 entry_one e f x y good_e good_f same =
-    let component : e.component ≡ f.component = two_digits _ _ (ap (λ (l : List ℕ). get_or l 0 0) same) (ap (λ (l : List ℕ). get_or l 1 0) same) in
-    let version : e.version ≡ f.version = two_digits _ _ (ap (λ (l : List ℕ). get_or l 2 0) same) (ap (λ (l : List ℕ). get_or l 3 0) same) in
-    let length : e.length ≡ f.length = two_digits _ _ (ap (λ (l : List ℕ). get_or l 4 0) same) (ap (λ (l : List ℕ). get_or l 5 0) same) in
+    let component : e.component ≡ f.component = digits _ _ (ap (λ (l : List ℕ). get_or l 0 0) same) (ap (λ (l : List ℕ). get_or l 1 0) same) in
+    let version : e.version ≡ f.version = digits _ _ (ap (λ (l : List ℕ). get_or l 2 0) same) (ap (λ (l : List ℕ). get_or l 3 0) same) in
+    let length : e.length ≡ f.length = digits _ _ (ap (λ (l : List ℕ). get_or l 4 0) same) (ap (λ (l : List ℕ). get_or l 5 0) same) in
     let rest = split_same e.digest f.digest x y (good_e.digest ∙ sym good_f.digest) (ap (λ (l : List ℕ). drop 6 l) same) in
     ((λ i. record { component = component i; version = version i; length = length i; digest = rest.0 i }), rest.1)
 
