@@ -8,4 +8,5 @@ pub mod Stored
 pub mod Formatted
 pub mod Sets
 pub mod Stands
+pub mod Words
 mod WrongOrders

@@ -6,3 +6,4 @@ pub mod Stored
 pub mod Formatted
 pub mod Sets
 pub mod Stands
+pub mod Words

@@ -33,7 +33,8 @@ pub record EachPageIsInOnePart : Type 0 where
       → parts_of prog (slice_set ext page bytes) ≡ record (parts_of prog ext) { staged = slice_set (pages_from 306 480 ext) (page - 306) bytes }
   -- page i of slot s
   pub slot : (prog ext : List (List ℕ)) (s i : ℕ) (bytes : List ℕ) → s < 32 → i < 39
-      → parts_of prog (slice_set ext (786 + 39 * s + i) bytes) ≡ record (parts_of prog ext) { slots = slice_set (slots_of ext) s (concat (slice_set (pages_from (786 + 39 * s) 39 ext) i bytes)) }
+      → parts_of prog (slice_set ext (786 + 39 * s + i) bytes)
+      ≡ record (parts_of prog ext) { slots = slice_set (slots_of ext) s (concat (slice_set (pages_from (786 + 39 * s) 39 ext) i bytes)) }
   pub unused : (prog ext : List (List ℕ)) (page : ℕ) (bytes : List ℕ) → 2034 ≤ page → parts_of prog (slice_set ext page bytes) ≡ parts_of prog ext
   pub prog : (prog ext : List (List ℕ)) (page : ℕ) (bytes : List ℕ)
       → parts_of (slice_set prog page bytes) ext ≡ record (parts_of prog ext) { prog = slice_set prog page bytes }

@@ -66,8 +66,8 @@ pub record WritingKeeps : Type 0 where
 -- A slot changes, to any bytes, only where the chosen release has no package in it and the symbols that were merged from it don't count.
 -- A held component's slot is the chosen release's too: to write it would spoil the set that boots.
 abbrev pub SlotWritingKeeps : Type 0
-SlotWritingKeeps = (p : Parts) (s : ℕ) (bytes : List ℕ) → IsSound p → p.gates sym ≡ false → ((m : StoredRelease) → Stores (chosen_side p) m → IsUnused m s)
-    → Keeps p (record p { slots = slice_set p.slots s bytes })
+SlotWritingKeeps = (p : Parts) (s : ℕ) (bytes : List ℕ) → IsSound p → p.gates sym ≡ false
+    → ((m : StoredRelease) → Stores (chosen_side p) m → IsUnused m s) → Keeps p (record p { slots = slice_set p.slots s bytes })
 
 -- ---- gates that are opened
 
@@ -80,8 +80,8 @@ pub record OpeningKeeps : Type 0 where
       → HasLateCause p.slots (other_side p) → HasTable p.slots (other_side p) p.symbols → Keeps p (with_gate sym b p)
   pub relocs : (p : Parts) (b : Bool) → IsSound p → is_pending p ≡ false → p.gates rel ≡ false → p.gates sym ≡ true → HasNoCause p.slots (other_side p)
       → HasList p.slots (other_side p) p.relocs → Keeps p (with_gate rel b p)
-  pub image : (p : Parts) (b : Bool) → IsSound p → is_pending p ≡ false → p.gates img ≡ false → p.gates rel ≡ true → HasImage p.slots (other_side p) p.staged
-      → Keeps p (with_gate img b p)
+  pub image : (p : Parts) (b : Bool) → IsSound p → is_pending p ≡ false → p.gates img ≡ false → p.gates rel ≡ true
+      → HasImage p.slots (other_side p) p.staged → Keeps p (with_gate img b p)
 
 -- ---- a commit, and its end
 

@@ -11,6 +11,7 @@ ghost use Rattle.mote_laws.specs.Stored.{BytesAreOneRelease, PartsStandForOne};
 ghost use Rattle.mote_laws.specs.Formatted.{FormattedIsSound};
 ghost use Rattle.mote_laws.specs.Sets.{SetsAreFaultless, OtherSetsStay};
 ghost use Rattle.mote_laws.specs.Stands.{ChoiceIsTheMotes, OnlyCommitsChoose, RestingStepsStand, CutCommitIsWhole, StandingStepsStand};
+ghost use Rattle.mote_laws.specs.Words.{WordsSayWhatTheyMean, ImageIsTheChosens};
 
 /// Closing Img, Rel, Sym and Man, in this order, keeps a mote sound and what it chooses.
 pub fn closing_keeps()
@@ -135,4 +136,14 @@ pub fn cut_commit_is_whole()
 /// Nothing of a boot's steps is seen until the Go gate is closed, and then no commit stands.
 pub fn standing_steps_stand()
     ensures { StandingStepsStand }
+{}
+
+/// Where a side's release is known, each word of soundness says what it says of that release.
+pub fn words_say_what_they_mean()
+    ensures { WordsSayWhatTheyMean }
+{}
+
+/// The chosen set's image is in program flash where no commit stands, and staged where one does.
+pub fn image_is_the_chosens()
+    ensures { ImageIsTheChosens }
 {}
