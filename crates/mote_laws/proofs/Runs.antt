@@ -1,17 +1,19 @@
 -- What the mote machine keeps, by its rows.
-use Rattle.std.proofs.Common.{◌≡◌, ◌≢◌, ℕ, ◌<◌, ◌&&◌, Bool, true, false, not, cond, List, [], ◌∷◌, length, suc, refl, ap, subst}
+use Rattle.std.proofs.Common.{sym, ◌∙◌, ◌++◌, ◌≡◌, ◌≢◌, ℕ, ◌<◌, ◌&&◌, Bool, true, false, not, cond, List, [], ◌∷◌, length, suc, refl, ap, subst}
 use Rattle.std.proofs.lemmas.Bool.{false≢true, both_ways, and_parts, and_from, not_from_false}
+use Rattle.component_package.specs.declared.answer.Answer.{Answer}
 use Rattle.component_package.specs.declared.answer.Answer.TheVariants as answers
 use Rattle.component_package.specs.Frames.{Frame}
-use Rattle.component_package.specs.Machine.{Mote, Step, step, commits, mote_from, commits_from, answers_from, boot_frame, chosen_of}
-use Rattle.mote_laws.specs.Runs.{is_refusal, RefusalsChangeNothing, is_served, MachineIsTotal, OnlyItsAnswerChanges, IsAbove, IsRising, ReleasesRise, CommitsRise}
+use Rattle.component_package.specs.Machine.{Mote, Step, step, commits, mote_from, commits_from, answers_from, boot_frame, chosen_of, Chosen}
+use Rattle.mote_laws.specs.Runs.{RunsJoin, is_of_current, AnswersTellTheCurrent, is_refusal, RefusalsChangeNothing, is_served, MachineIsTotal, OnlyItsAnswerChanges, IsAbove, IsRising, ReleasesRise, CommitsRise}
 use Rattle.mote_laws.proofs.Rows.{each_row}
 
 -- ---- refusals
 
 pub refusals_change_nothing : RefusalsChangeNothing
 refusals_change_nothing s f = each_row s f (λ x. is_refusal x.answer ≡ true → x.mote ≡ s) (record {
-  refused = λ a served refuses. refl;
+  refused = λ a served said refuses. refl;
+  repeated = λ stands refuses. refl;
   booted = λ refuses. absurd (false≢true refuses);
   manifest = λ calm whole above refuses. absurd (false≢true refuses);
   piece = λ m p k page bytes calm is at new fits refuses. absurd (false≢true refuses);
@@ -22,7 +24,8 @@ refusals_change_nothing s f = each_row s f (λ x. is_refusal x.answer ≡ true �
 
 serves : (s : Mote) (f : Frame) → is_served (step s f).answer ≡ true
 serves s f = each_row s f (λ x. is_served x.answer ≡ true) (record {
-  refused = λ a served. served;
+  refused = λ a served said. served;
+  repeated = λ stands. refl;
   booted = refl;
   manifest = λ calm whole above. refl;
   piece = λ m p k page bytes calm is at new fits. refl;
@@ -42,7 +45,8 @@ machine_is_total = record { serves = serves; all = λ s fs. as_many s (boot_fram
 
 current_kept : (s : Mote) (f : Frame) → ((n : ℕ) → (step s f).answer ≢ answers.Committed n) → (step s f).mote.current ≡ s.current
 current_kept s f = each_row s f (λ x. ((n : ℕ) → x.answer ≢ answers.Committed n) → x.mote.current ≡ s.current) (record {
-  refused = λ a served other. refl;
+  refused = λ a served said other. refl;
+  repeated = λ stands other. refl;
   booted = λ other. refl;
   manifest = λ calm whole above other. refl;
   piece = λ m p k page bytes calm is at new fits other. refl;
@@ -53,7 +57,8 @@ current_kept s f = each_row s f (λ x. ((n : ℕ) → x.answer ≢ answers.Commi
 
 standing_kept : (s : Mote) (f : Frame) → s.standing ≡ false → ((n : ℕ) → (step s f).answer ≢ answers.Committed n) → (step s f).mote.standing ≡ false
 standing_kept s f none = each_row s f (λ x. ((n : ℕ) → x.answer ≢ answers.Committed n) → x.mote.standing ≡ false) (record {
-  refused = λ a served other. none;
+  refused = λ a served said other. none;
+  repeated = λ stands other. none;
   booted = λ other. refl;
   manifest = λ calm whole above other. none;
   piece = λ m p k page bytes calm is at new fits other. none;
@@ -64,7 +69,8 @@ standing_kept s f none = each_row s f (λ x. ((n : ℕ) → x.answer ≢ answers
 
 store_kept : (s : Mote) (f : Frame) → ((k page : ℕ) → (step s f).answer ≢ answers.Piece k page) → (step s f).mote.store ≡ s.store
 store_kept s f = each_row s f (λ x. ((k page : ℕ) → x.answer ≢ answers.Piece k page) → x.mote.store ≡ s.store) (record {
-  refused = λ a served other. refl;
+  refused = λ a served said other. refl;
+  repeated = λ stands other. refl;
   booted = λ other. refl;
   manifest = λ calm whole above other. refl;
   piece = λ m p k page bytes calm is at new fits other. absurd (other k page refl);
@@ -75,7 +81,8 @@ store_kept s f = each_row s f (λ x. ((k page : ℕ) → x.answer ≢ answers.Pi
 
 until_boot : (s : Mote) (f : Frame) → s.standing ≡ true → ((n : ℕ) → (step s f).answer ≢ answers.Booted n) → (step s f).mote ≡ s
 until_boot s f stands = each_row s f (λ x. ((n : ℕ) → x.answer ≢ answers.Booted n) → x.mote ≡ s) (record {
-  refused = λ a served other. refl;
+  refused = λ a served said other. refl;
+  repeated = λ stands other. refl;
   booted = λ other. absurd (other s.current.number refl);
   manifest = λ calm whole above other. absurd (both_ways s.standing calm stands);
   piece = λ m p k page bytes calm is at new fits other. absurd (both_ways s.standing calm stands);
@@ -87,11 +94,65 @@ until_boot s f stands = each_row s f (λ x. ((n : ℕ) → x.answer ≢ answers.
 pub only_its_answer_changes : OnlyItsAnswerChanges
 only_its_answer_changes = record { current = current_kept; standing = standing_kept; store = store_kept; until_boot = until_boot }
 
+not_of_current : (a b : Answer) → is_of_current a ≡ false → is_of_current b ≡ true → a ≡ b → ⊥
+not_of_current a b said other same = both_ways (is_of_current b) (ap is_of_current (sym same) ∙ said) other
+
+committed_tells : (s : Mote) (f : Frame) (n : ℕ) → (step s f).answer ≡ answers.Committed n → ((step s f).mote.current.number ≡ n) × ((step s f).mote.standing ≡ true)
+committed_tells s f n = each_row s f (λ x. x.answer ≡ answers.Committed n → (x.mote.current.number ≡ n) × (x.mote.standing ≡ true)) (record {
+  refused = λ a served said is. absurd (not_of_current a (answers.Committed n) said refl is);
+  repeated = λ stands is. ((let e : s.current.number ≡ n = cc in e), stands);
+  booted = λ is. absurd cc;
+  manifest = λ calm whole above is. absurd cc;
+  piece = λ m p k page bytes calm coming at new fits is. absurd cc;
+  linked = λ m calm coming unlinked whole free is. absurd cc;
+  committed = λ m calm coming linked is. ((let e : m.number ≡ n = cc in e), refl);
+  aborted = λ calm is. absurd cc;
+})
+
+booted_tells : (s : Mote) (f : Frame) (n : ℕ) → (step s f).answer ≡ answers.Booted n → ((step s f).mote.current.number ≡ n) × ((step s f).mote.standing ≡ false)
+booted_tells s f n = each_row s f (λ x. x.answer ≡ answers.Booted n → (x.mote.current.number ≡ n) × (x.mote.standing ≡ false)) (record {
+  refused = λ a served said is. absurd (not_of_current a (answers.Booted n) said refl is);
+  repeated = λ stands is. absurd cc;
+  booted = λ is. ((let e : s.current.number ≡ n = cc in e), refl);
+  manifest = λ calm whole above is. absurd cc;
+  piece = λ m p k page bytes calm coming at new fits is. absurd cc;
+  linked = λ m calm coming unlinked whole free is. absurd cc;
+  committed = λ m calm coming linked is. absurd cc;
+  aborted = λ calm is. absurd cc;
+})
+
+pub answers_tell_the_current : AnswersTellTheCurrent
+answers_tell_the_current = record { committed = committed_tells; booted = booted_tells }
+
+-- ---- runs one after another
+
+motes_join : (s : Mote) (fs gs : List Frame) → mote_from s (fs ++ gs) ≡ mote_from (mote_from s fs) gs
+motes_join s [] gs = refl
+motes_join s (f ∷ fs) gs = motes_join (step s f).mote fs gs
+
+answers_join : (s : Mote) (fs gs : List Frame) → answers_from s (fs ++ gs) ≡ answers_from s fs ++ answers_from (mote_from s fs) gs
+answers_join s [] gs = refl
+answers_join s (f ∷ fs) gs = ap (λ (answers : List Answer). (step s f).answer ∷ answers) (answers_join (step s f).mote fs gs)
+
+commits_join : (s : Mote) (fs gs : List Frame) → commits_from s (fs ++ gs) ≡ commits_from s fs ++ commits_from (mote_from s fs) gs
+commits_join s [] gs = refl
+commits_join s (f ∷ fs) gs = one (commits s f) (commits_join (step s f).mote fs gs)
+  where
+    one : (b : Bool) → commits_from (step s f).mote (fs ++ gs) ≡ commits_from (step s f).mote fs ++ commits_from (mote_from (step s f).mote fs) gs
+        → cond b (chosen_of (step s f).mote ∷ commits_from (step s f).mote (fs ++ gs)) (commits_from (step s f).mote (fs ++ gs))
+            ≡ cond b (chosen_of (step s f).mote ∷ commits_from (step s f).mote fs) (commits_from (step s f).mote fs) ++ commits_from (mote_from (step s f).mote fs) gs
+    one true rest = ap (λ (cs : List Chosen). chosen_of (step s f).mote ∷ cs) rest
+    one false rest = rest
+
+pub runs_join : RunsJoin
+runs_join = record { mote = motes_join; answers = answers_join; commits = commits_join }
+
 -- ---- releases rise
 
 rises : (s : Mote) (f : Frame) → IsRising s → IsRising (step s f).mote
 rises s f rising = each_row s f (λ x. IsRising x.mote) (record {
-  refused = λ a served. rising;
+  refused = λ a served said. rising;
+  repeated = λ stands. rising;
   booted = rising;
   manifest = λ calm whole above. above;
   piece = λ m p k page bytes calm is at new fits. rising;
@@ -115,7 +176,8 @@ no_commit false commits = absurd (false≢true commits)
 
 commit_rises : (s : Mote) (f : Frame) → IsRising s → Rises s (step s f)
 commit_rises s f rising = each_row s f (Rises s) (record {
-  refused = λ a served. record { above = λ commits. absurd (no_commit s.standing commits); same = λ none. refl };
+  refused = λ a served said. record { above = λ commits. absurd (no_commit s.standing commits); same = λ none. refl };
+  repeated = λ stands. record { above = λ commits. absurd (no_commit s.standing commits); same = λ none. refl };
   booted = record { above = λ commits. absurd (false≢true (and_parts (not s.standing) false commits).1); same = λ none. refl };
   manifest = λ calm whole above. record { above = λ commits. absurd (no_commit s.standing commits); same = λ none. refl };
   piece = λ m p k page bytes calm is at new fits. record { above = λ commits. absurd (no_commit s.standing commits); same = λ none. refl };

@@ -1,6 +1,6 @@
 -- The mote that the parts stand for after each step.
-use Rattle.std.proofs.Common.{◌≡◌, ◌≢◌, ℕ, Bool, true, false, cond, List, Option, Some, None, is_some, slice_get, refl, sym as flip, ap, ◌∙◌, subst, arith}
-use Rattle.std.proofs.lemmas.Bool.{both_ways, ne_eqb}
+use Rattle.std.proofs.Common.{not, ◌&&◌, ◌≡◌, ◌≢◌, ℕ, Bool, true, false, cond, List, Option, Some, None, is_some, slice_get, refl, sym as flip, ap, ◌∙◌, subst, arith}
+use Rattle.std.proofs.lemmas.Bool.{both_ways, and_from, not_from_false, ne_eqb}
 use Rattle.component_package.specs.declared.answer.Answer.TheVariants as answers
 use Rattle.component_package.specs.Component.{Component}
 use Rattle.component_package.specs.Manifest.{StoredRelease, Placed, Stores}
@@ -45,14 +45,15 @@ piece_apart p s m q k sound stands is at new =
     other_sets_stay.piece (chosen_side p) (other_side p) s.current m k q (comes_next p sound comes.0) stands.current comes.1 at (not_held (held_slot s.current q.entry) new)
 
 pub only_commits_choose : OnlyCommitsChoose
-only_commits_choose p s f sound stands = each_row s f (λ x. ((n : ℕ) → x.answer ≢ answers.Committed n) → chosen_of x.mote ≡ chosen_of s) (record {
-  refused = λ a served other. refl;
+only_commits_choose p s f sound stands = each_row s f (λ x. (not s.standing && x.mote.standing) ≡ false → chosen_of x.mote ≡ chosen_of s) (record {
+  refused = λ a served said other. refl;
+  repeated = λ stands other. refl;
   booted = λ other. refl;
   manifest = λ calm whole above other. refl;
   piece = λ m q k page bytes calm is at new fits other.
       ap (λ (set : List Component). let c : Chosen = record { release = s.current; set = set } in c) (components_kept s.store q.slot _ s.current (piece_apart p s m q k sound stands is at new));
   linked = λ m calm is unlinked whole free other. refl;
-  committed = λ m calm is linked other. absurd (other m.number refl);
+  committed = λ m calm is linked other. absurd (both_ways (not s.standing && true) other (and_from (not s.standing) true (not_from_false s.standing calm) refl));
   aborted = λ calm other. refl;
 })
 

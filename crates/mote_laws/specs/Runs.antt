@@ -1,10 +1,10 @@
 -- What the mote machine keeps, step by step and over a session.
-use Rattle.std.specs.Prelude.{◌≡◌, ◌≢◌, ℕ, ◌<◌, Bool, true, false, List, [], ◌∷◌, length, Option, Some, None}
+use Rattle.std.specs.Prelude.{◌≡◌, ◌≢◌, ℕ, ◌<◌, Bool, true, false, List, [], ◌∷◌, length, Option, Some, None, ◌++◌}
 use Rattle.component_package.specs.declared.answer.Answer.{Answer}
 use Rattle.component_package.specs.declared.answer.Answer.TheVariants as answers
 use Rattle.component_package.specs.Manifest.{StoredRelease}
 use Rattle.component_package.specs.Frames.{Frame}
-use Rattle.component_package.specs.Machine.{Mote, Chosen, step, boot_frame, session_mote, session_commits, session_answers}
+use Rattle.component_package.specs.Machine.{Mote, Chosen, step, boot_frame, session_mote, session_commits, session_answers, mote_from, answers_from, commits_from}
 
 -- ---- refusals
 
@@ -64,6 +64,25 @@ pub record OnlyItsAnswerChanges : Type 0 where
   pub store : (s : Mote) (f : Frame) → ((k page : ℕ) → (step s f).answer ≢ answers.Piece k page) → (step s f).mote.store ≡ s.store
   -- that a commit stands, until a boot
   pub until_boot : (s : Mote) (f : Frame) → s.standing ≡ true → ((n : ℕ) → (step s f).answer ≢ answers.Booted n) → (step s f).mote ≡ s
+
+-- the answers that name the release that boots next
+abbrev pub is_of_current : Answer → Bool
+is_of_current (answers.Committed n) = true
+is_of_current (answers.Booted n) = true
+is_of_current a = false
+
+-- `committed` and `booted` name the current release, which stands to be installed, or was.
+pub record AnswersTellTheCurrent : Type 0 where
+  pub committed : (s : Mote) (f : Frame) (n : ℕ) → (step s f).answer ≡ answers.Committed n → ((step s f).mote.current.number ≡ n) × ((step s f).mote.standing ≡ true)
+  pub booted : (s : Mote) (f : Frame) (n : ℕ) → (step s f).answer ≡ answers.Booted n → ((step s f).mote.current.number ≡ n) × ((step s f).mote.standing ≡ false)
+
+-- ---- runs one after another
+
+-- A run over frames and then more frames is the two runs, one behind the other.
+pub record RunsJoin : Type 0 where
+  pub mote : (s : Mote) (fs gs : List Frame) → mote_from s (fs ++ gs) ≡ mote_from (mote_from s fs) gs
+  pub answers : (s : Mote) (fs gs : List Frame) → answers_from s (fs ++ gs) ≡ answers_from s fs ++ answers_from (mote_from s fs) gs
+  pub commits : (s : Mote) (fs gs : List Frame) → commits_from s (fs ++ gs) ≡ commits_from s fs ++ commits_from (mote_from s fs) gs
 
 -- ---- releases rise
 

@@ -1,11 +1,10 @@
 -- Which mote of the machine the parts stand for after each step of the journal, and what boots.
 use Rattle.std.specs.Prelude.{◌≡◌, ◌≢◌, ℕ, Bool, true, false, List, [], if◌then◌else◌, Some, None}
-use Rattle.component_package.specs.declared.answer.Answer.TheVariants as answers
 use Rattle.component_package.specs.Manifest.{StoredRelease, Stores}
 use Rattle.component_package.specs.Sides.{Parts, man, sym, rel, img, go_a, go_b, sel, is_on_b, other_side, is_pending}
 use Rattle.component_package.specs.Sound.{IsSound}
 use Rattle.component_package.specs.Frames.{Frame}
-use Rattle.component_package.specs.Machine.{Mote, Chosen, chosen_of, step}
+use Rattle.component_package.specs.Machine.{Mote, Chosen, chosen_of, commits, step}
 use Rattle.component_package.specs.Headline.{StandsFor, Chooses}
 use Rattle.mote_laws.specs.Steps.{with_gate, with_other_side, other_go, chosen_go}
 
@@ -16,10 +15,9 @@ pub record ChoiceIsTheMotes : Type 0 where
   pub chosen : (p : Parts) (s : Mote) → StandsFor p s → Chooses p (chosen_of s)
   pub one : (p : Parts) (c d : Chosen) → Chooses p c → Chooses p d → c ≡ d
 
--- What a sound mote boots changes at `committed` alone, whatever frame comes.
+-- What a sound mote boots changes where a commit comes to stand, and nowhere else, whatever frame comes.
 abbrev pub OnlyCommitsChoose : Type 0
-OnlyCommitsChoose = (p : Parts) (s : Mote) (f : Frame) → IsSound p → StandsFor p s → ((n : ℕ) → (step s f).answer ≢ answers.Committed n)
-    → chosen_of (step s f).mote ≡ chosen_of s
+OnlyCommitsChoose = (p : Parts) (s : Mote) (f : Frame) → IsSound p → StandsFor p s → commits s f ≡ false → chosen_of (step s f).mote ≡ chosen_of s
 
 -- ---- steps where no commit stands
 

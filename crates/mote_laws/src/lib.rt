@@ -5,7 +5,7 @@
 
 ghost use Rattle.mote_laws.specs.Steps.{ClosingKeeps, WritingKeeps, SlotWritingKeeps, OpeningKeeps, CommitIsWhole, SelectingKeeps, FinishingKeeps};
 ghost use Rattle.mote_laws.specs.Programs.{EachPageIsInOnePart, JoinedPageIsPut};
-ghost use Rattle.mote_laws.specs.Runs.{RefusalsChangeNothing, MachineIsTotal, OnlyItsAnswerChanges, CommitsRise};
+ghost use Rattle.mote_laws.specs.Runs.{RefusalsChangeNothing, MachineIsTotal, OnlyItsAnswerChanges, CommitsRise, AnswersTellTheCurrent, RunsJoin};
 ghost use Rattle.mote_laws.specs.Slots.{SlotIsFree, SlotsAreFound};
 ghost use Rattle.mote_laws.specs.Stored.{BytesAreOneRelease, PartsStandForOne};
 ghost use Rattle.mote_laws.specs.Formatted.{FormattedIsSound};
@@ -78,6 +78,16 @@ pub fn commits_rise()
     ensures { CommitsRise }
 {}
 
+/// `committed` and `booted` name the current release.
+pub fn answers_tell_the_current()
+    ensures { AnswersTellTheCurrent }
+{}
+
+/// A run over frames and then more frames is the two runs, one behind the other.
+pub fn runs_join()
+    ensures { RunsJoin }
+{}
+
 /// A slot is free where fewer than 32 are taken.
 pub fn slot_is_free()
     ensures { SlotIsFree }
@@ -118,7 +128,7 @@ pub fn choice_is_the_motes()
     ensures { ChoiceIsTheMotes }
 {}
 
-/// What a sound mote boots changes at `committed` alone, whatever frame comes.
+/// What a sound mote boots changes where a commit comes to stand, and nowhere else.
 pub fn only_commits_choose()
     ensures { OnlyCommitsChoose }
 {}
