@@ -9,9 +9,11 @@ use Rattle.component_package.specs.Store.{slot_at, slots_of}
 use Rattle.component_package.specs.Sides.{is_open, is_on_b, parts_of, pages_from}
 use Rattle.mote_laws.specs.Programs.{EachPageIsInOnePart, JoinedPageIsPut}
 
+-- what is behind some pages after one of those is set
 drop_set : (n : ℕ) (l : List (List ℕ)) (page i : ℕ) (bytes : List ℕ) → page ≡ n + i → drop n (set l page bytes) ≡ set (drop n l) i bytes
 drop_set n l page i bytes is = ap (λ p. drop n (set l p bytes)) is ∙ drop-set-add n l i bytes
 
+-- the first pages after one of them is set
 take_set : (n : ℕ) (l : List (List ℕ)) (i : ℕ) (bytes : List ℕ) → i < n → take n (set l i bytes) ≡ set (take n l) i bytes
 take_set zero l i bytes within = absurd (omega arith)
 take_set (suc n) [] i bytes within = refl
@@ -22,11 +24,13 @@ take_set (suc n) (x ∷ l) (suc i) bytes within = ap (λ (k : List (List ℕ)). 
 pub pages_before : (first count : ℕ) (ext : List (List ℕ)) (page : ℕ) (bytes : List ℕ) → page < first → pages_from first count (set ext page bytes) ≡ pages_from first count ext
 pages_before first count ext page bytes before = ap (λ (l : List (List ℕ)). take count l) (drop-set-lt first ext page bytes before)
 
+-- behind them
 pub pages_behind : (first count : ℕ) (ext : List (List ℕ)) (page : ℕ) (bytes : List ℕ) → first + count ≤ page → pages_from first count (set ext page bytes) ≡ pages_from first count ext
 pages_behind first count ext page bytes behind =
     ap (λ (l : List (List ℕ)). take count l) (drop_set first ext page (page - first) bytes (omega arith))
     ∙ take-set-le count (drop first ext) (page - first) bytes (omega arith)
 
+-- among them
 pub pages_within : (first count : ℕ) (ext : List (List ℕ)) (page : ℕ) (bytes : List ℕ) → first ≤ page → page < first + count
     → pages_from first count (set ext page bytes) ≡ set (pages_from first count ext) (page - first) bytes
 pages_within first count ext page bytes from to =
@@ -125,6 +129,7 @@ in_side_a prog ext page bytes from to = λ x. record {
   slots = slots_kept ext page bytes (inl (omega arith)) x;
 }
 
+-- the same for side B
 in_side_b : (prog ext : List (List ℕ)) (page : ℕ) (bytes : List ℕ) → 13 ≤ page → page < 18
     → parts_of prog (set ext page bytes) ≡ record (parts_of prog ext) { side_b = concat (set (pages_from 13 5 ext) (page - 13) bytes) }
 in_side_b prog ext page bytes from to = λ x. record {

@@ -15,18 +15,26 @@ use Rattle.mote_laws.specs.Runs.{is_served, is_of_current}
 
 -- what holds of the step in each row
 pub record Rows (s : Mote) (f : Frame) (P : Step → Type 0) : Type 0 where
+  -- a refusal, and what only tells
   pub refused : (a : Answer) → is_served a ≡ true → is_of_current a ≡ false → P (refuses s a)
+  -- a commit that comes again
   pub repeated : s.standing ≡ true → P (refuses s (answers.Committed s.current.number))
+  -- BOOT
   pub booted : P (record { mote = record s { standing = false }; answer = answers.Booted s.current.number })
+  -- a manifest of another release, above the current one
   pub manifest : s.standing ≡ false → manifest_fault f.payload ≡ None → s.current.number < (release_in f.payload).number
       → P (record { mote = record s { incoming = Some (slots_for s.current (release_in f.payload)); linked = false }; answer = manifest_is s (release_in f.payload) })
+  -- a piece that is another than what is there
   pub piece : (m : StoredRelease) (p : Placed) (k page : ℕ) (bytes : List ℕ) → s.standing ≡ false → s.incoming ≡ Some m → slice_get m.placed k ≡ Some p → is_some (held_slot s.current p.entry) ≡ false
       → is_piece_of p.entry.length page bytes ≡ true
       → P (record { mote = record s { store = slice_set s.store p.slot (with_page_of page bytes (slice_index_or s.store p.slot [])); linked = false }; answer = answers.Piece k page })
+  -- LINK of a set that is whole and that nothing refuses
   pub linked : (m : StoredRelease) → s.standing ≡ false → s.incoming ≡ Some m → s.linked ≡ false → set_fault s.store m ≡ None → link_cause (components_of s.store m) ≡ None
       → P (record { mote = record s { linked = true }; answer = answers.Linked m.number })
+  -- COMMIT of what is linked
   pub committed : (m : StoredRelease) → s.standing ≡ false → s.incoming ≡ Some m → s.linked ≡ true
       → P (record { mote = record s { current = m; incoming = None; linked = false; standing = true }; answer = answers.Committed m.number })
+  -- ABORT
   pub aborted : s.standing ≡ false → P (record { mote = record s { incoming = None; linked = false }; answer = answers.Aborted })
 
 -- the page is already so
@@ -39,6 +47,7 @@ split P true x y then_x else_y = then_x refl
 split P false x y then_x else_y = else_y refl
 
 module _ (s : Mote) (f : Frame) (P : Step → Type 0) (rows : Rows s f P) where
+  -- the rows of MANIFEST
   manifest_row : (fault : Option ManifestFault) → manifest_fault f.payload ≡ fault → s.standing ≡ false → P (take_manifest s fault (release_in f.payload))
   manifest_row (Some fault) is calm = rows.refused (answers.BadManifest (number_of_manifest_fault fault)) refl refl
   manifest_row None is calm =
@@ -46,6 +55,7 @@ module _ (s : Mote) (f : Frame) (P : Step → Type 0) (rows : Rows s f P) where
       split P (is_incoming s.incoming (release_in f.payload)) _ _ (λ same. rows.refused (manifest_is s (release_in f.payload)) refl refl) (λ other.
       rows.manifest calm is (ltb-true s.current.number (release_in f.payload).number (not-false (ltb s.current.number (release_in f.payload).number) above))))
 
+  -- of PIECE, where there is such an entry or not
   piece_of_row : (payload : List ℕ) (m : StoredRelease) (p : Option Placed) → s.standing ≡ false → s.incoming ≡ Some m → slice_get m.placed (slice_index payload 0) ≡ p → P (take_piece_of s payload p)
   piece_of_row payload m None calm coming is = rows.refused answers.BadPiece refl refl
   piece_of_row payload m (Some p) calm coming is =
@@ -55,11 +65,13 @@ module _ (s : Mote) (f : Frame) (P : Step → Type 0) (rows : Rows s f P) where
       rows.piece m p (slice_index payload 0) (slice_index payload 1) (drop 2 payload) calm coming is new fits)))
       (λ unfit. rows.refused answers.BadPiece refl refl)
 
+  -- of PIECE
   piece_row : (incoming : Option StoredRelease) → s.incoming ≡ incoming → s.standing ≡ false → P (take_piece s f.payload incoming)
   piece_row None is calm = rows.refused answers.NoManifest refl refl
   piece_row (Some m) is calm =
       split P (ltb (length f.payload) 3) _ _ (λ short. rows.refused answers.BadPiece refl refl) (λ long. piece_of_row f.payload m (slice_get m.placed (slice_index f.payload 0)) calm is refl)
 
+  -- a cause's line is served
   served_cause : (cause : Cause) → is_served (cause_answer cause) ≡ true
   served_cause (FlashFull t) = refl
   served_cause (RamFull t) = refl
@@ -69,6 +81,7 @@ module _ (s : Mote) (f : Frame) (P : Step → Type 0) (rows : Rows s f P) where
   served_cause (Undefined k r a) = refl
   served_cause (Range k r c) = refl
 
+  -- and names no current release
   current_cause : (cause : Cause) → is_of_current (cause_answer cause) ≡ false
   current_cause (FlashFull t) = refl
   current_cause (RamFull t) = refl
@@ -78,19 +91,23 @@ module _ (s : Mote) (f : Frame) (P : Step → Type 0) (rows : Rows s f P) where
   current_cause (Undefined k r a) = refl
   current_cause (Range k r c) = refl
 
+  -- the rows of LINK, of a whole set
   set_row : (m : StoredRelease) (cause : Option Cause) → s.standing ≡ false → s.incoming ≡ Some m → s.linked ≡ false → set_fault s.store m ≡ None → link_cause (components_of s.store m) ≡ cause → P (link_set s m.number cause)
   set_row m (Some cause) calm is unlinked whole caused = rows.refused (cause_answer cause) (served_cause cause) (current_cause cause)
   set_row m None calm is unlinked whole caused = rows.linked m calm is unlinked whole caused
 
+  -- of what the slots hold
   held_row : (m : StoredRelease) (fault : Option SetFault) → s.standing ≡ false → s.incoming ≡ Some m → s.linked ≡ false → set_fault s.store m ≡ fault → P (link_held s m fault)
   held_row m (Some (Missing k)) calm is unlinked faulty = rows.refused (answers.Missing k) refl refl
   held_row m (Some (BadPackage k n)) calm is unlinked faulty = rows.refused (answers.BadPackage k n) refl refl
   held_row m None calm is unlinked whole = set_row m (link_cause (components_of s.store m)) calm is unlinked whole refl
 
+  -- of LINK
   link_row : (incoming : Option StoredRelease) → s.incoming ≡ incoming → s.standing ≡ false → P (link_incoming s incoming)
   link_row None is calm = rows.refused answers.NoManifest refl refl
   link_row (Some m) is calm = split P s.linked _ _ (λ linked. rows.refused (answers.Linked m.number) refl refl) (λ unlinked. held_row m (set_fault s.store m) calm is unlinked refl)
 
+  -- of COMMIT
   commit_row : (incoming : Option StoredRelease) → s.incoming ≡ incoming → s.standing ≡ false → P (commit_incoming s incoming)
   commit_row None is calm = rows.refused answers.NoManifest refl refl
   commit_row (Some m) is calm = split P s.linked _ _ (λ linked. rows.committed m calm is linked) (λ unlinked. rows.refused answers.NotLinked refl refl)

@@ -22,6 +22,7 @@ refusals_change_nothing s f = each_row s f (λ x. is_refusal x.answer ≡ true �
   aborted = λ calm refuses. absurd (false≢true refuses);
 })
 
+-- each frame has an answer
 serves : (s : Mote) (f : Frame) → is_served (step s f).answer ≡ true
 serves s f = each_row s f (λ x. is_served x.answer ≡ true) (record {
   refused = λ a served said. served;
@@ -34,6 +35,7 @@ serves s f = each_row s f (λ x. is_served x.answer ≡ true) (record {
   aborted = λ calm. refl;
 })
 
+-- and each of several
 as_many : (s : Mote) (fs : List Frame) → length (answers_from s fs) ≡ length fs
 as_many s [] = refl
 as_many s (f ∷ fs) = ap suc (as_many (step s f).mote fs)
@@ -43,6 +45,7 @@ machine_is_total = record { serves = serves; all = λ s fs. as_many s (boot_fram
 
 -- ---- what an answer may change
 
+-- the current release stays
 current_kept : (s : Mote) (f : Frame) → ((n : ℕ) → (step s f).answer ≢ answers.Committed n) → (step s f).mote.current ≡ s.current
 current_kept s f = each_row s f (λ x. ((n : ℕ) → x.answer ≢ answers.Committed n) → x.mote.current ≡ s.current) (record {
   refused = λ a served said other. refl;
@@ -55,6 +58,7 @@ current_kept s f = each_row s f (λ x. ((n : ℕ) → x.answer ≢ answers.Commi
   aborted = λ calm other. refl;
 })
 
+-- no commit comes to stand
 standing_kept : (s : Mote) (f : Frame) → s.standing ≡ false → ((n : ℕ) → (step s f).answer ≢ answers.Committed n) → (step s f).mote.standing ≡ false
 standing_kept s f none = each_row s f (λ x. ((n : ℕ) → x.answer ≢ answers.Committed n) → x.mote.standing ≡ false) (record {
   refused = λ a served said other. none;
@@ -67,6 +71,7 @@ standing_kept s f none = each_row s f (λ x. ((n : ℕ) → x.answer ≢ answers
   aborted = λ calm other. none;
 })
 
+-- the slots stay
 store_kept : (s : Mote) (f : Frame) → ((k page : ℕ) → (step s f).answer ≢ answers.Piece k page) → (step s f).mote.store ≡ s.store
 store_kept s f = each_row s f (λ x. ((k page : ℕ) → x.answer ≢ answers.Piece k page) → x.mote.store ≡ s.store) (record {
   refused = λ a served said other. refl;
@@ -79,6 +84,7 @@ store_kept s f = each_row s f (λ x. ((k page : ℕ) → x.answer ≢ answers.Pi
   aborted = λ calm other. refl;
 })
 
+-- a mote that waits for its boot stays as it is
 until_boot : (s : Mote) (f : Frame) → s.standing ≡ true → ((n : ℕ) → (step s f).answer ≢ answers.Booted n) → (step s f).mote ≡ s
 until_boot s f stands = each_row s f (λ x. ((n : ℕ) → x.answer ≢ answers.Booted n) → x.mote ≡ s) (record {
   refused = λ a served said other. refl;
@@ -94,9 +100,11 @@ until_boot s f stands = each_row s f (λ x. ((n : ℕ) → x.answer ≢ answers.
 pub only_its_answer_changes : OnlyItsAnswerChanges
 only_its_answer_changes = record { current = current_kept; standing = standing_kept; store = store_kept; until_boot = until_boot }
 
+-- two answers that a test tells apart
 not_of_current : (a b : Answer) → is_of_current a ≡ false → is_of_current b ≡ true → a ≡ b → ⊥
 not_of_current a b said other same = both_ways (is_of_current b) (ap is_of_current (sym same) ∙ said) other
 
+-- `committed` names what stands to be installed
 committed_tells : (s : Mote) (f : Frame) (n : ℕ) → (step s f).answer ≡ answers.Committed n → ((step s f).mote.current.number ≡ n) × ((step s f).mote.standing ≡ true)
 committed_tells s f n = each_row s f (λ x. x.answer ≡ answers.Committed n → (x.mote.current.number ≡ n) × (x.mote.standing ≡ true)) (record {
   refused = λ a served said is. absurd (not_of_current a (answers.Committed n) said refl is);
@@ -109,6 +117,7 @@ committed_tells s f n = each_row s f (λ x. x.answer ≡ answers.Committed n →
   aborted = λ calm is. absurd cc;
 })
 
+-- `booted` names what was
 booted_tells : (s : Mote) (f : Frame) (n : ℕ) → (step s f).answer ≡ answers.Booted n → ((step s f).mote.current.number ≡ n) × ((step s f).mote.standing ≡ false)
 booted_tells s f n = each_row s f (λ x. x.answer ≡ answers.Booted n → (x.mote.current.number ≡ n) × (x.mote.standing ≡ false)) (record {
   refused = λ a served said is. absurd (not_of_current a (answers.Booted n) said refl is);
@@ -126,21 +135,24 @@ answers_tell_the_current = record { committed = committed_tells; booted = booted
 
 -- ---- runs one after another
 
+-- the mote after both
 motes_join : (s : Mote) (fs gs : List Frame) → mote_from s (fs ++ gs) ≡ mote_from (mote_from s fs) gs
 motes_join s [] gs = refl
 motes_join s (f ∷ fs) gs = motes_join (step s f).mote fs gs
 
+-- the answers of both
 answers_join : (s : Mote) (fs gs : List Frame) → answers_from s (fs ++ gs) ≡ answers_from s fs ++ answers_from (mote_from s fs) gs
 answers_join s [] gs = refl
 answers_join s (f ∷ fs) gs = ap (λ (answers : List Answer). (step s f).answer ∷ answers) (answers_join (step s f).mote fs gs)
 
+-- the commits of both
 commits_join : (s : Mote) (fs gs : List Frame) → commits_from s (fs ++ gs) ≡ commits_from s fs ++ commits_from (mote_from s fs) gs
 commits_join s [] gs = refl
 commits_join s (f ∷ fs) gs = one (commits s f) (commits_join (step s f).mote fs gs)
   where
     one : (b : Bool) → commits_from (step s f).mote (fs ++ gs) ≡ commits_from (step s f).mote fs ++ commits_from (mote_from (step s f).mote fs) gs
         → cond b (chosen_of (step s f).mote ∷ commits_from (step s f).mote (fs ++ gs)) (commits_from (step s f).mote (fs ++ gs))
-            ≡ cond b (chosen_of (step s f).mote ∷ commits_from (step s f).mote fs) (commits_from (step s f).mote fs) ++ commits_from (mote_from (step s f).mote fs) gs
+        ≡ cond b (chosen_of (step s f).mote ∷ commits_from (step s f).mote fs) (commits_from (step s f).mote fs) ++ commits_from (mote_from (step s f).mote fs) gs
     one true rest = ap (λ (cs : List Chosen). chosen_of (step s f).mote ∷ cs) rest
     one false rest = rest
 
@@ -149,6 +161,7 @@ runs_join = record { mote = motes_join; answers = answers_join; commits = commit
 
 -- ---- releases rise
 
+-- a step keeps a mote rising
 rises : (s : Mote) (f : Frame) → IsRising s → IsRising (step s f).mote
 rises s f rising = each_row s f (λ x. IsRising x.mote) (record {
   refused = λ a served said. rising;
@@ -161,6 +174,7 @@ rises s f rising = each_row s f (λ x. IsRising x.mote) (record {
   aborted = λ calm. tt;
 })
 
+-- and so does a run
 run_rises : (s : Mote) (fs : List Frame) → IsRising s → IsRising (mote_from s fs)
 run_rises s [] rising = rising
 run_rises s (f ∷ fs) rising = run_rises (step s f).mote fs (rises s f rising)
@@ -170,10 +184,12 @@ record Rises (s : Mote) (x : Step) : Type 0 where
   above : (not s.standing && x.mote.standing) ≡ true → s.current.number < x.mote.current.number
   same : (not s.standing && x.mote.standing) ≡ false → x.mote.current.number ≡ s.current.number
 
+-- no commit comes to stand where nothing changes
 no_commit : (b : Bool) → (not b && b) ≡ true → ⊥
 no_commit true commits = absurd (false≢true commits)
 no_commit false commits = absurd (false≢true commits)
 
+-- each step, by its row
 commit_rises : (s : Mote) (f : Frame) → IsRising s → Rises s (step s f)
 commit_rises s f rising = each_row s f (Rises s) (record {
   refused = λ a served said. record { above = λ commits. absurd (no_commit s.standing commits); same = λ none. refl };
@@ -189,6 +205,7 @@ commit_rises s f rising = each_row s f (Rises s) (record {
   aborted = λ calm. record { above = λ commits. absurd (no_commit s.standing commits); same = λ none. refl };
 })
 
+-- the commits of a run rise
 commits_rise_from : (s : Mote) (fs : List Frame) → IsRising s → ReleasesRise s.current.number (commits_from s fs)
 commits_rise_from s [] rising = tt
 commits_rise_from s (f ∷ fs) rising = one (commits s f) refl (commits_rise_from (step s f).mote fs (rises s f rising))

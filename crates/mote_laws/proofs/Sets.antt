@@ -34,6 +34,7 @@ same_lists_are (x ∷ xs) (y ∷ ys) same =
     let rest = same_lists_are xs ys parts.1 in
     λ i. head i ∷ rest i
 
+-- a list is the same as itself
 pub is_same_itself : (xs : List ℕ) → is_same xs xs ≡ true
 is_same_itself [] = refl
 is_same_itself (x ∷ xs) = and_from (eqb x x) (is_same xs xs) (eq-eqb x x refl) (is_same_itself xs)
@@ -89,6 +90,7 @@ faultless_package store p bytes there whole = record {
 -- ---- a set
 
 module _ (store : List (List ℕ)) (m : StoredRelease) where
+  -- no package of a set is missing
   no_missing : HasSet store m → (k : ℕ) → missing_at store m k ≡ None
   no_missing has k = at (slice_get m.placed k) refl
     where
@@ -96,6 +98,7 @@ module _ (store : List (List ℕ)) (m : StoredRelease) where
       at None is = refl
       at (Some p) is = ap (λ (b : Bool). cond b (Some (Missing k)) None) (package_faultless store p (all_at (HoldsPackage store) m.placed k p has is)).0
 
+  -- and none is bad
   no_bad : HasSet store m → (k : ℕ) → bad_package_at store m k ≡ None
   no_bad has k = at (slice_get m.placed k) refl
     where
@@ -103,9 +106,11 @@ module _ (store : List (List ℕ)) (m : StoredRelease) where
       at None is = refl
       at (Some p) is = ap (option_map (BadPackage k)) (package_faultless store p (all_at (HoldsPackage store) m.placed k p has is)).1
 
+  -- a set has no fault
   set_faultless : HasSet store m → set_fault store m ≡ None
   set_faultless has = rw (none_first (missing_at store m) (length m.placed) (λ k within. no_missing has k)) (none_first (bad_package_at store m) (length m.placed) (λ k within. no_bad has k))
 
+  -- and what has no fault is a set
   faultless_set : AreByteSlots store → set_fault store m ≡ None → HasSet store m
   faultless_set bytes none = all_by_places (HoldsPackage store) m.placed one
     where
@@ -143,6 +148,7 @@ sets_are_faultless = record { faultless = set_faultless; whole = faultless_set; 
 
 -- ---- other sets
 
+-- the slot of an entry that isn't held
 piece_unused : (current side : List ℕ) (m n : StoredRelease) (k : ℕ) (p : Placed) → IsNext current side → Stores current m → Stores side n → slice_get n.placed k ≡ Some p → held_slot m p.entry ≡ None → IsUnused m p.slot
 unfolding IsNext
 piece_unused current side m n k p (m2, r, stores2, release, above, next) stores_m stores_n at new =

@@ -19,6 +19,7 @@ abbrev taken_among : List ℕ → ℕ → ℕ → ℕ
 taken_among taken a zero = 0
 taken_among taken a (suc n) = cond (is_taken taken a) 1 0 + taken_among taken (a + 1) n
 
+-- a number before all of them is none of them
 none_past : (t a n : ℕ) → t < a → taken_among (t ∷ []) a n ≡ 0
 none_past t a zero before = refl
 none_past t a (suc n) before =
@@ -48,10 +49,12 @@ more_taken t taken a (suc n) =
     let here = count_or (eqb t a) (is_taken taken a) in
     omega arith
 
+-- where nothing is taken
 none_taken : (a n : ℕ) → taken_among [] a n ≡ 0
 none_taken a zero = refl
 none_taken a (suc n) = omega (arith, none_taken (a + 1) n)
 
+-- no more of them are taken than are taken at all
 taken_at_most : (taken : List ℕ) (a n : ℕ) → taken_among taken a n ≤ length taken
 taken_at_most [] a n = omega (arith, none_taken a n)
 taken_at_most (t ∷ taken) a n = omega (arith, more_taken t taken a n, one_at_most t a n, taken_at_most taken a n)
@@ -80,6 +83,7 @@ slot_is_free taken few = ⊎_elim
 abbrev held_in : List Placed → Entry → Option ℕ
 held_in ps e = option_map (λ p. p.slot) (find (λ p. is_same_entry p.entry e) ps)
 
+-- equal entries are of one component
 same_component : (e f : Entry) → is_same_entry e f ≡ true → e.component ≡ f.component
 same_component e f same = eqb-true e.component f.component (and_parts _ _ (and_parts _ _ (and_parts _ _ same).0).0).0
 
@@ -121,11 +125,16 @@ held_once (p ∷ ps) e f s apart held_e held_f = at (is_same_entry p.entry e) (i
 
 -- what the entries from here on are placed over: a stored release, taken slots that are its own and others, and room
 record Room (m : StoredRelease) (taken : List ℕ) (es : List Entry) : Type 0 where
+  -- the slots of its own are apart
   apart : AreDistinct (map (λ p. p.slot) m.placed)
+  -- and below 32
   small : AllByRecursion (λ p. p.slot < 32) m.placed
+  -- they are taken
   own : (s : ℕ) → is_taken (map (λ p. p.slot) m.placed) s ≡ true → is_taken taken s ≡ true
+  -- there is room for the entries
   room : length taken + length es ≤ 32
 
+-- one entry further on
 room_left : (m : StoredRelease) (taken : List ℕ) (e : Entry) (es : List Entry) (s : ℕ) → Room m taken (e ∷ es) → Room m (s ∷ taken) es
 room_left m taken e es s room = record {
   apart = room.apart;
@@ -134,6 +143,7 @@ room_left m taken e es s room = record {
   room = (let h : length taken + length (e ∷ es) ≤ 32 = room.room in omega arith);
 }
 
+-- a slot is free for this entry
 free_here : (m : StoredRelease) (taken : List ℕ) (e : Entry) (es : List Entry) → Room m taken (e ∷ es) → (least_free taken < 32) × (is_taken taken (least_free taken) ≡ false)
 free_here m taken e es room = slot_is_free taken (let h : length taken + length (e ∷ es) ≤ 32 = room.room in omega arith)
 
@@ -179,18 +189,22 @@ placed_entries : (m : StoredRelease) (taken : List ℕ) (es : List Entry) → ma
 placed_entries m taken [] = refl
 placed_entries m taken (e ∷ es) = ap (λ (fs : List Entry). e ∷ fs) (placed_entries m (place_entry (held_slot m e) taken ∷ taken) es)
 
+-- as many as there were
 placed_count : (m : StoredRelease) (taken : List ℕ) (es : List Entry) → length (placed_from m taken es) ≡ length es
 placed_count m taken [] = refl
 placed_count m taken (e ∷ es) = ap suc (placed_count m (place_entry (held_slot m e) taken ∷ taken) es)
 
+-- of the same components
 placed_components : (m : StoredRelease) (taken : List ℕ) (es : List Entry) → map (λ p. p.entry.component) (placed_from m taken es) ≡ map (λ e. e.component) es
 placed_components m taken [] = refl
 placed_components m taken (e ∷ es) = ap (λ (fs : List ℕ). e.component ∷ fs) (placed_components m (place_entry (held_slot m e) taken ∷ taken) es)
 
+-- each is an entry of the grammar
 placed_good : (m : StoredRelease) (taken : List ℕ) (es : List Entry) → AllByRecursion IsManifestEntry es → AllByRecursion (λ p. IsManifestEntry p.entry) (placed_from m taken es)
 placed_good m taken [] good = tt
 placed_good m taken (e ∷ es) good = (good.0, placed_good m (place_entry (held_slot m e) taken ∷ taken) es good.1)
 
+-- each slot is below 32
 placed_low : (m : StoredRelease) (taken : List ℕ) (es : List Entry) → Room m taken es → AllByRecursion (λ p. p.slot < 32) (placed_from m taken es)
 placed_low m taken [] room = tt
 placed_low m taken (e ∷ es) room = (place_small m taken e es room (held_slot m e) refl, placed_low m (place_entry (held_slot m e) taken ∷ taken) es (room_left m taken e es _ room))
@@ -204,6 +218,7 @@ starts m r stored release = record {
   room = omega (arith, length-map m.placed (λ p. p.slot), stored.few, release.few);
 }
 
+-- a held entry keeps its slot
 placed_held : (m : StoredRelease) (taken : List ℕ) (es : List Entry) (k : ℕ) (p : Placed) (s : ℕ) → slice_get (placed_from m taken es) k ≡ Some p → held_slot m p.entry ≡ Some s → p.slot ≡ s
 placed_held m taken [] k p s at held = absurd cc
 placed_held m taken (e ∷ es) zero p s at held =
@@ -213,6 +228,7 @@ placed_held m taken (e ∷ es) zero p s at held =
     sym slot ∙ ap (λ (o : Option ℕ). place_entry o taken) (ap (held_slot m) entry ∙ held)
 placed_held m taken (e ∷ es) (suc k) p s at held = placed_held m (place_entry (held_slot m e) taken ∷ taken) es k p s at held
 
+-- no other gets one of the current release's
 placed_new : (m : StoredRelease) (taken : List ℕ) (es : List Entry) (k : ℕ) (p : Placed) → Room m taken es → slice_get (placed_from m taken es) k ≡ Some p → held_slot m p.entry ≡ None → IsUnused m p.slot
 placed_new m taken [] k p room at new = absurd cc
 placed_new m taken (e ∷ es) zero p room at new =

@@ -26,6 +26,7 @@ entry_one e f x y good_e good_f same =
     let rest = split_same e.digest f.digest x y (good_e.digest ∙ sym good_f.digest) (ap (λ (l : List ℕ). drop 6 l) same) in
     ((λ i. record { component = component i; version = version i; length = length i; digest = rest.0 i }), rest.1)
 
+-- the first placed entry is the same, and so is what follows it
 placed_one : (p q : Placed) (x y : List ℕ) → IsManifestEntry p.entry → IsManifestEntry q.entry → placed_bytes p ++ x ≡ placed_bytes q ++ y → (p ≡ q) × (x ≡ y)
 placed_one p q x y good_p good_q same =
     let parts = entry_one p.entry q.entry ((p.slot ∷ replicate 25 0) ++ x) ((q.slot ∷ replicate 25 0) ++ y) good_p good_q
@@ -44,6 +45,7 @@ list_one P write each (a ∷ xs) (b ∷ ys) x y good_x good_y long same =
     let rest = list_one P write each xs ys x y good_x.1 good_y.1 (omega arith) first.1 in
     λ i. first.0 i ∷ rest i
 
+-- two releases with one manifest
 spelled_one : (r s : Release) → IsRelease r → IsRelease s → manifest_bytes r ≡ manifest_bytes s → r ≡ s
 spelled_one r s good_r good_s same =
     let number : r.number ≡ s.number = four_digits _ _ (ap (λ (l : List ℕ). get_or l 0 0) same) (ap (λ (l : List ℕ). get_or l 1 0) same) (ap (λ (l : List ℕ). get_or l 2 0) same) (ap (λ (l : List ℕ). get_or l 3 0) same) in
@@ -51,6 +53,7 @@ spelled_one r s good_r good_s same =
     let entries = list_one IsManifestEntry manifest_entry_bytes entry_one r.entries s.entries [] [] good_r.entries good_s.entries count (ap (λ (l : List ℕ). drop 5 l ++ []) same) in
     λ i. record { number = number i; entries = entries i }
 
+-- two stored releases with the same pages
 stored_one : (m n : StoredRelease) → IsStored m → IsStored n → stored_bytes m ≡ stored_bytes n → m ≡ n
 stored_one m n good_m good_n same =
     let number : m.number ≡ n.number = four_digits _ _ (ap (λ (l : List ℕ). get_or l 0 0) same) (ap (λ (l : List ℕ). get_or l 1 0) same) (ap (λ (l : List ℕ). get_or l 2 0) same) (ap (λ (l : List ℕ). get_or l 3 0) same) in
@@ -58,9 +61,11 @@ stored_one m n good_m good_n same =
     let placed = list_one (λ p. IsManifestEntry p.entry) placed_bytes placed_one m.placed n.placed (replicate (1024 - 64 * length m.placed) 0) (replicate (1024 - 64 * length n.placed) 0) good_m.entries good_n.entries count (ap (λ (l : List ℕ). drop 256 l) same) in
     λ i. record { number = number i; placed = placed i }
 
+-- bytes spell one release
 pub spells_one : (b : List ℕ) (r s : Release) → SpellsRelease b r → SpellsRelease b s → r ≡ s
 spells_one b r s first second = spelled_one r s first.release second.release (sym first.bytes ∙ second.bytes)
 
+-- a side stores one release
 pub stores_one : (b : List ℕ) (m n : StoredRelease) → Stores b m → Stores b n → m ≡ n
 stores_one b m n first second = stored_one m n first.stored second.stored (sym first.bytes ∙ second.bytes)
 
@@ -69,12 +74,14 @@ bytes_are_one_release = record { spelled = spells_one; stored = stores_one }
 
 -- ---- the mote that parts stand for
 
+-- one release comes in at most
 incoming_one : (p : Parts) (a b : Option StoredRelease) → StandsForIncoming p a → StandsForIncoming p b → a ≡ b
 incoming_one p None None first second = refl
 incoming_one p None (Some n) first second = absurd (both_ways (has_incoming p) first second.0)
 incoming_one p (Some m) None first second = absurd (both_ways (has_incoming p) second first.0)
 incoming_one p (Some m) (Some n) first second = ap Some (stores_one (other_side p) m n first.1 second.1)
 
+-- one mote at most
 stands_for_one : (p : Parts) (s t : Mote) → StandsFor p s → StandsFor p t → s ≡ t
 stands_for_one p s t first second =
     let current = stores_one (chosen_side p) s.current t.current first.current second.current in
@@ -89,10 +96,12 @@ chosen_release : (slots : List (List ℕ)) (side : List ℕ) → HasNoCause slot
 unfolding HasNoCause
 chosen_release slots side (m, stores, has, none) = (m, stores)
 
+-- and that it is above the current one
 next_release : (current side : List ℕ) → IsNext current side → (m n : StoredRelease) × Stores current m × Stores side n × (m.number < n.number)
 unfolding IsNext
 next_release current side (m, r, stores, release, above, next) = (m, slots_for m r, stores, next, above)
 
+-- what comes in has Man open
 pub man_open : (p : Parts) → has_incoming p ≡ true → (is_pending p ≡ false) × (p.gates man ≡ true)
 man_open p has = at (is_pending p) refl has
   where
@@ -100,13 +109,16 @@ man_open p has = at (is_pending p) refl has
     at true is h = absurd cc
     at false is h = (is, h)
 
+-- and is next
 pub comes_next : (p : Parts) → IsSound p → has_incoming p ≡ true → IsNext (chosen_side p) (other_side p)
 comes_next p sound has = let gates = man_open p has in (sound.rest gates.0).man_open gates.1
 
+-- what comes in, where something does
 stands_for_incoming : (p : Parts) → IsSound p → (b : Bool) → has_incoming p ≡ b → (o : Option StoredRelease) × StandsForIncoming p o
 stands_for_incoming p sound false is = (None, is)
 stands_for_incoming p sound true is = let next = next_release (chosen_side p) (other_side p) (comes_next p sound is) in (Some next.1, (is, next.3))
 
+-- a sound mote stands for one
 stands_for_some : (p : Parts) → IsSound p → (s : Mote) × StandsFor p s
 stands_for_some p sound =
     let current = chosen_release p.slots (chosen_side p) sound.chosen in
@@ -115,6 +127,7 @@ stands_for_some p sound =
       record { current = current.1; incoming = incoming.1; store = refl; linked = refl; standing = refl },
     )
 
+-- and for one that rises
 is_rising : (p : Parts) (s : Mote) → IsSound p → StandsFor p s → IsRising s
 is_rising p s sound stands = at s.incoming stands.incoming
   where

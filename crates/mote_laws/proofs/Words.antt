@@ -18,25 +18,30 @@ module _ (slots : List (List ℕ)) (side : List ℕ) (m : StoredRelease) (stores
   known : (P : StoredRelease → Type 0) (n : StoredRelease) → Stores side n → P n → P m
   known P n stores_n holds = subst P (stores_one side n m stores_n stores) holds
 
+  -- the set is there
   set_says : HoldsSet slots side ↔ HasSet slots m
   unfolding HoldsSet
   set_says = ((λ (n, stores_n, has). known (HasSet slots) n stores_n has), (λ has. (m, stores, has)))
 
+  -- nothing refuses it
   no_cause_says : HasNoCause slots side ↔ (HasSet slots m × (link_cause (components_of slots m) ≡ None))
   unfolding HasNoCause
   no_cause_says =
       ((λ (n, stores_n, has, none). known (λ k. HasSet slots k × (link_cause (components_of slots k) ≡ None)) n stores_n (has, none)), (λ (has, none). (m, stores, has, none)))
 
+  -- nothing refuses it before its fields
   late_cause_says : HasLateCause slots side ↔ (HasSet slots m × IsLate (link_cause (components_of slots m)))
   unfolding HasLateCause
   late_cause_says =
       ((λ (n, stores_n, has, late). known (λ k. HasSet slots k × IsLate (link_cause (components_of slots k))) n stores_n (has, late)), (λ (has, late). (m, stores, has, late)))
 
+  -- the area is its symbol table
   table_says : (area : List ℕ) → HasTable slots side area ↔ ((t : List MergedSymbol) × IsTableOf (components_of slots m) t × Tells area t)
   unfolding HasTable
   table_says area =
       ((λ (n, t, stores_n, is, tells). known (λ k. (t : List MergedSymbol) × IsTableOf (components_of slots k) t × Tells area t) n stores_n (t, is, tells)), (λ (t, is, tells). (m, t, stores, is, tells)))
 
+  -- the area is its relocation list
   list_says : (area : List ℕ) → HasList slots side area ↔ ((t : List MergedSymbol) × IsTableOf (components_of slots m) t × Lists area (listed (components_of slots m) t))
   unfolding HasList
   list_says area = (
@@ -44,10 +49,12 @@ module _ (slots : List (List ℕ)) (side : List ℕ) (m : StoredRelease) (stores
     (λ (t, is, lists). (m, t, stores, is, lists)),
   )
 
+  -- the pages are its image
   image_says : (pages : List (List ℕ)) → HasImage slots side pages ↔ IsPages (components_of slots m) pages
   unfolding HasImage
   image_says pages = ((λ (n, stores_n, is). known (λ k. IsPages (components_of slots k) pages) n stores_n is), (λ is. (m, stores, is)))
 
+  -- the other side is next
   next_says : (other : List ℕ) → IsNext side other ↔ ((r : Release) × IsRelease r × (m.number < r.number) × Stores other (slots_for m r))
   unfolding IsNext
   next_says other = (
