@@ -1,11 +1,16 @@
 -- What the mote machine keeps, by its rows.
-use Rattle.std.proofs.Common.{sym, ◌∙◌, ◌++◌, ◌≡◌, ◌≢◌, ℕ, ◌<◌, ◌&&◌, Bool, true, false, not, cond, List, [], ◌∷◌, length, suc, refl, ap, subst}
+use Rattle.std.proofs.Common.{sym, ◌∙◌, ◌++◌, ◌≡◌, ◌≢◌, ℕ, ◌<◌, ◌&&◌, Bool, true, false, not, cond, List, [], ◌∷◌, length, suc, refl, ap, subst, Some, None}
+use Rattle.std.specs.List.{AllByRecursion}
+use Rattle.std.proofs.lemmas.Option.{same_Some}
 use Rattle.std.proofs.lemmas.Bool.{false≢true, both_ways, and_parts, and_from, not_from_false}
 use Rattle.component_package.specs.declared.answer.Answer.{Answer}
 use Rattle.component_package.specs.declared.answer.Answer.TheVariants as answers
+use Rattle.component_package.specs.Manifest.{StoredRelease}
+use Rattle.component_package.specs.Link.{link_cause}
+use Rattle.component_package.specs.Store.{components_of}
 use Rattle.component_package.specs.Frames.{Frame}
 use Rattle.component_package.specs.Machine.{Mote, Step, step, commits, mote_from, commits_from, answers_from, boot_frame, chosen_of, Chosen}
-use Rattle.mote_laws.specs.Runs.{RunsJoin, is_of_current, AnswersTellTheCurrent, is_refusal, RefusalsChangeNothing, is_served, MachineIsTotal, OnlyItsAnswerChanges, IsAbove, IsRising, ReleasesRise, CommitsRise}
+use Rattle.mote_laws.specs.Runs.{CommitsAreWhole, IsLinkedWhole, IsWhole, RunsJoin, is_of_current, AnswersTellTheCurrent, is_refusal, RefusalsChangeNothing, is_served, MachineIsTotal, OnlyItsAnswerChanges, IsAbove, IsRising, ReleasesRise, CommitsRise}
 use Rattle.mote_laws.proofs.Rows.{each_row}
 
 -- ---- refusals
@@ -84,6 +89,21 @@ store_kept s f = each_row s f (λ x. ((k page : ℕ) → x.answer ≢ answers.Pi
   aborted = λ calm other. refl;
 })
 
+-- the same release comes in
+incoming_kept : (s : Mote) (f : Frame) → ((n h : ℕ) → (step s f).answer ≢ answers.ManifestIs n h) → ((n : ℕ) → (step s f).answer ≢ answers.Committed n)
+    → (step s f).answer ≢ answers.Aborted → (step s f).mote.incoming ≡ s.incoming
+incoming_kept s f =
+    each_row s f (λ x. ((n h : ℕ) → x.answer ≢ answers.ManifestIs n h) → ((n : ℕ) → x.answer ≢ answers.Committed n) → x.answer ≢ answers.Aborted → x.mote.incoming ≡ s.incoming) (record {
+      refused = λ a served said other more most. refl;
+      repeated = λ stands other more most. refl;
+      booted = λ other more most. refl;
+      manifest = λ calm whole above other more most. absurd (other _ _ refl);
+      piece = λ m p k page bytes calm is at new fits other more most. refl;
+      linked = λ m calm is unlinked whole free other more most. refl;
+      committed = λ m calm is linked other more most. absurd (more m.number refl);
+      aborted = λ calm other more most. absurd (most refl);
+    })
+
 -- a mote that waits for its boot stays as it is
 until_boot : (s : Mote) (f : Frame) → s.standing ≡ true → ((n : ℕ) → (step s f).answer ≢ answers.Booted n) → (step s f).mote ≡ s
 until_boot s f stands = each_row s f (λ x. ((n : ℕ) → x.answer ≢ answers.Booted n) → x.mote ≡ s) (record {
@@ -98,7 +118,7 @@ until_boot s f stands = each_row s f (λ x. ((n : ℕ) → x.answer ≢ answers.
 })
 
 pub only_its_answer_changes : OnlyItsAnswerChanges
-only_its_answer_changes = record { current = current_kept; standing = standing_kept; store = store_kept; until_boot = until_boot }
+only_its_answer_changes = record { current = current_kept; standing = standing_kept; incoming = incoming_kept; store = store_kept; until_boot = until_boot }
 
 -- two answers that a test tells apart
 not_of_current : (a b : Answer) → is_of_current a ≡ false → is_of_current b ≡ true → a ≡ b → ⊥
@@ -217,3 +237,53 @@ commits_rise_from s (f ∷ fs) rising = one (commits s f) refl (commits_rise_fro
 
 pub commits_rise : CommitsRise
 commits_rise = record { step = rises; run = λ s fs. run_rises s (boot_frame ∷ fs); commits = λ s fs. commits_rise_from s (boot_frame ∷ fs) }
+
+-- ---- what is linked is whole
+
+-- each step keeps a mote so
+keeps_whole : (s : Mote) (f : Frame) → IsLinkedWhole s → IsLinkedWhole (step s f).mote
+keeps_whole s f whole = each_row s f (λ x. IsLinkedWhole x.mote) (record {
+  refused = λ a served said. whole;
+  repeated = λ stands. whole;
+  booted = λ linked. record { release = (whole linked).release; incoming = (whole linked).incoming; faultless = (whole linked).faultless; free = (whole linked).free };
+  manifest = λ calm faultless above linked. absurd (false≢true linked);
+  piece = λ m p k page bytes calm is at new fits linked. absurd (false≢true linked);
+  linked = λ m calm is unlinked faultless free linked. record { release = m; incoming = is; faultless = faultless; free = free };
+  committed = λ m calm is was linked. absurd (false≢true linked);
+  aborted = λ calm linked. absurd (false≢true linked);
+})
+
+-- and so does a run
+run_keeps_whole : (s : Mote) (fs : List Frame) → IsLinkedWhole s → IsLinkedWhole (mote_from s fs)
+run_keeps_whole s [] whole = whole
+run_keeps_whole s (f ∷ fs) whole = run_keeps_whole (step s f).mote fs (keeps_whole s f whole)
+
+-- nothing refuses the release that comes in, where it is whole
+free_incoming : (s : Mote) (m : StoredRelease) → s.incoming ≡ Some m → IsWhole s → link_cause (components_of s.store m) ≡ None
+free_incoming s m is whole = ap (λ (n : StoredRelease). link_cause (components_of s.store n)) (same_Some m whole.release (sym is ∙ whole.incoming)) ∙ whole.free
+
+-- nothing refuses the set of a commit
+commit_free : (s : Mote) (f : Frame) → IsLinkedWhole s → commits s f ≡ true → link_cause (components_of (step s f).mote.store (step s f).mote.current) ≡ None
+commit_free s f whole = each_row s f (λ x. (not s.standing && x.mote.standing) ≡ true → link_cause (components_of x.mote.store x.mote.current) ≡ None) (record {
+  refused = λ a served said commits. absurd (no_commit s.standing commits);
+  repeated = λ stands commits. absurd (no_commit s.standing commits);
+  booted = λ commits. absurd (false≢true (and_parts (not s.standing) false commits).1);
+  manifest = λ calm faultless above commits. absurd (no_commit s.standing commits);
+  piece = λ m p k page bytes calm is at new fits commits. absurd (no_commit s.standing commits);
+  linked = λ m calm is unlinked faultless free commits. absurd (no_commit s.standing commits);
+  committed = λ m calm is linked commits. free_incoming s m is (whole linked);
+  aborted = λ calm commits. absurd (no_commit s.standing commits);
+})
+
+-- and of each of a run
+commits_free : (s : Mote) (fs : List Frame) → IsLinkedWhole s → AllByRecursion (λ c. link_cause c.set ≡ None) (commits_from s fs)
+commits_free s [] whole = tt
+commits_free s (f ∷ fs) whole = one (commits s f) refl (commits_free (step s f).mote fs (keeps_whole s f whole))
+  where
+    one : (b : Bool) → commits s f ≡ b → AllByRecursion (λ c. link_cause c.set ≡ None) (commits_from (step s f).mote fs)
+        → AllByRecursion (λ c. link_cause c.set ≡ None) (cond b (chosen_of (step s f).mote ∷ commits_from (step s f).mote fs) (commits_from (step s f).mote fs))
+    one true is rest = (commit_free s f whole is, rest)
+    one false is rest = rest
+
+pub commits_are_whole : CommitsAreWhole
+commits_are_whole = record { step = keeps_whole; run = λ s fs. run_keeps_whole s (boot_frame ∷ fs); commits = λ s fs. commits_free s (boot_frame ∷ fs) }

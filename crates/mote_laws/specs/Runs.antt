@@ -1,8 +1,11 @@
 -- What the mote machine keeps, step by step and over a session.
 use Rattle.std.specs.Prelude.{◌≡◌, ◌≢◌, ℕ, ◌<◌, Bool, true, false, List, [], ◌∷◌, length, Option, Some, None, ◌++◌}
+use Rattle.std.specs.List.{AllByRecursion}
 use Rattle.component_package.specs.declared.answer.Answer.{Answer}
 use Rattle.component_package.specs.declared.answer.Answer.TheVariants as answers
 use Rattle.component_package.specs.Manifest.{StoredRelease}
+use Rattle.component_package.specs.Link.{link_cause}
+use Rattle.component_package.specs.Store.{set_fault, components_of}
 use Rattle.component_package.specs.Frames.{Frame}
 use Rattle.component_package.specs.Machine.{Mote, Chosen, step, boot_frame, session_mote, session_commits, session_answers, mote_from, answers_from, commits_from}
 
@@ -60,6 +63,9 @@ pub record OnlyItsAnswerChanges : Type 0 where
   -- the release that boots, and that no commit stands
   pub current : (s : Mote) (f : Frame) → ((n : ℕ) → (step s f).answer ≢ answers.Committed n) → (step s f).mote.current ≡ s.current
   pub standing : (s : Mote) (f : Frame) → s.standing ≡ false → ((n : ℕ) → (step s f).answer ≢ answers.Committed n) → (step s f).mote.standing ≡ false
+  -- what comes in
+  pub incoming : (s : Mote) (f : Frame) → ((n h : ℕ) → (step s f).answer ≢ answers.ManifestIs n h) → ((n : ℕ) → (step s f).answer ≢ answers.Committed n)
+      → (step s f).answer ≢ answers.Aborted → (step s f).mote.incoming ≡ s.incoming
   -- the slots
   pub store : (s : Mote) (f : Frame) → ((k page : ℕ) → (step s f).answer ≢ answers.Piece k page) → (step s f).mote.store ≡ s.store
   -- that a commit stands, until a boot
@@ -106,3 +112,22 @@ pub record CommitsRise : Type 0 where
   pub step : (s : Mote) (f : Frame) → IsRising s → IsRising (step s f).mote
   pub run : (s : Mote) (fs : List Frame) → IsRising s → IsRising (session_mote s fs)
   pub commits : (s : Mote) (fs : List Frame) → IsRising s → ReleasesRise s.current.number (session_commits s fs)
+
+-- ---- what is linked is whole
+
+-- the release that comes in is whole in the slots, and nothing refuses its set
+pub record IsWhole (s : Mote) : Type 0 where
+  pub release : StoredRelease
+  pub incoming : s.incoming ≡ Some release
+  pub faultless : set_fault s.store release ≡ None
+  pub free : link_cause (components_of s.store release) ≡ None
+
+-- a mote is linked only where that holds
+abbrev pub IsLinkedWhole : Mote → Type 0
+IsLinkedWhole s = s.linked ≡ true → IsWhole s
+
+-- Each step keeps a mote so, and thus nothing refuses a set that a session commits. A piece that left a mote linked would commit what was never linked.
+pub record CommitsAreWhole : Type 0 where
+  pub step : (s : Mote) (f : Frame) → IsLinkedWhole s → IsLinkedWhole (step s f).mote
+  pub run : (s : Mote) (fs : List Frame) → IsLinkedWhole s → IsLinkedWhole (session_mote s fs)
+  pub commits : (s : Mote) (fs : List Frame) → IsLinkedWhole s → AllByRecursion (λ c. link_cause c.set ≡ None) (session_commits s fs)

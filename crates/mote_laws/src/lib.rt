@@ -5,7 +5,7 @@
 
 ghost use Rattle.mote_laws.specs.Steps.{ClosingKeeps, WritingKeeps, SlotWritingKeeps, OpeningKeeps, CommitIsWhole, SelectingKeeps, FinishingKeeps};
 ghost use Rattle.mote_laws.specs.Programs.{EachPageIsInOnePart, JoinedPageIsPut};
-ghost use Rattle.mote_laws.specs.Runs.{RefusalsChangeNothing, MachineIsTotal, OnlyItsAnswerChanges, CommitsRise, AnswersTellTheCurrent, RunsJoin};
+ghost use Rattle.mote_laws.specs.Runs.{RefusalsChangeNothing, MachineIsTotal, OnlyItsAnswerChanges, CommitsRise, AnswersTellTheCurrent, RunsJoin, CommitsAreWhole};
 ghost use Rattle.mote_laws.specs.Slots.{SlotIsFree, SlotsAreFound};
 ghost use Rattle.mote_laws.specs.Stored.{BytesAreOneRelease, PartsStandForOne};
 ghost use Rattle.mote_laws.specs.Formatted.{FormattedIsSound};
@@ -68,7 +68,7 @@ pub fn machine_is_total()
     ensures { MachineIsTotal }
 {}
 
-/// The release that boots changes only at `committed`, the slots only at `piece`, and a commit stands until `booted`.
+/// The release that boots changes only at `committed`, what comes in only at `manifest`, `committed` and `aborted`, the slots only at `piece`, and a commit stands until `booted`.
 pub fn only_its_answer_changes()
     ensures { OnlyItsAnswerChanges }
 {}
@@ -86,6 +86,11 @@ pub fn answers_tell_the_current()
 /// A run over frames and then more frames is the two runs, one behind the other.
 pub fn runs_join()
     ensures { RunsJoin }
+{}
+
+/// A mote is linked only where its incoming set is whole, and nothing refuses a set that a session commits.
+pub fn commits_are_whole()
+    ensures { CommitsAreWhole }
 {}
 
 /// A slot is free where fewer than 32 are taken.
