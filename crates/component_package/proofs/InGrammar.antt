@@ -49,6 +49,7 @@ clear_front (x ∷ q) more (m ∷ mask) e =
     let both = and_parts (is_zero (bit_and x m)) (list_all is_zero (masked (q ++ more) mask)) e in
     rw both.0 (clear_front q more mask both.1)
 
+-- a field under its mask keeps its length
 length-masked : (q mask : List ℕ) → length q ≤ length mask → length (masked q mask) ≡ length q
 length-masked [] mask le = refl
 length-masked (x ∷ q) [] le = absurd (omega arith)
@@ -60,6 +61,7 @@ pub record IsWidth (s : Shape) : Type 0 where
   pub four : width_of s ≤ 4
   pub mask : length (mask_of s) ≡ 4
 
+-- so it is of each shape
 pub widths : (s : Shape) → IsWidth s
 widths shapes.Byte = record { some = omega arith; four = omega arith; mask = refl }
 widths shapes.Word = record { some = omega arith; four = omega arith; mask = refl }
@@ -80,16 +82,20 @@ zero_value s q more wide e =
 
 -- ---- tests that came out true
 
+-- a test that is wanted only where x holds
 if_set : (x y : Bool) → (not x || y) ≡ true → IsTrue x → y ≡ true
 if_set true y e set = e
 if_set false y e set = absurd cc
 
+-- an offset that is wanted even where x holds
 aligned_says : (x : Bool) (n : ℕ) → (not x || eqb (n % 2) 0) ≡ true → IsTrue x → n % 2 ≡ 0
 aligned_says x n e set = eqb-true (n % 2) 0 (if_set x (eqb (n % 2) 0) e set)
 
+-- a target is low or a symbol
 target_says : (t : ℕ) (weak : Bool) → (nat_le 16 t || (nat_le t 10 && not weak)) ≡ true → (t ≤ 10) ⊎ (16 ≤ t)
 target_says t weak e = elim (or_cases _ _ e) [ inl high ↦ inr (leb-true 16 t high) | inr low ↦ inl (leb-true t 10 (and_parts _ _ low).0) ]
 
+-- a weak target is a symbol
 weak_says : (t : ℕ) (weak : Bool) → (nat_le 16 t || (nat_le t 10 && not weak)) ≡ true → IsTrue weak → 16 ≤ t
 weak_says t false e set = absurd cc
 weak_says t true e set = elim (or_cases _ _ e) [ inl high ↦ leb-true 16 t high | inr low ↦ (let off : false ≡ true = (and_parts (nat_le t 10) false low).1 in absurd cc) ]
@@ -101,6 +107,7 @@ exports_rise : (low : ℕ) (es : List Export) → Rises (λ e. e.symbol) (λ e. 
 exports_rise low [] rise = tt
 exports_rise low (e ∷ es) rise = (rise.0, exports_rise (e.symbol + 1) es rise.1)
 
+-- and so do relocations
 relocs_rise : (c : Component) (low : ℕ) (rs : List Reloc) → Rises (position_in c) (λ r. position_in c r + reloc_width r) low rs → RelocsRise c low rs
 relocs_rise c low [] rise = tt
 relocs_rise c low (r ∷ rs) rise = (rise.0, relocs_rise c (position_in c r + reloc_width r) rs rise.1)
@@ -115,10 +122,12 @@ behind_by_numbers false false code init a w b inside e = let le = leb-true (a + 
 
 -- ---- exports and relocations
 
+-- the length of the part that p names
 by_case : (p : Bool) (c : Component) → length (cond p c.init c.code) ≡ cond p (length c.init) (length c.code)
 by_case true c = refl
 by_case false c = refl
 
+-- the length of the part that a relocation stands in
 pub length_of_part : (c : Component) (r : Reloc) → length (part_of_reloc c r) ≡ cond r.in_init (length c.init) (length c.code)
 length_of_part c r = by_case r.in_init c
 

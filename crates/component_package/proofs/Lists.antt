@@ -16,6 +16,7 @@ use Rattle.component_package.specs.Reading.{list_of}
 pub list_of_more : {X : Type 0} (f : ℕ → X) (n : ℕ) → list_of f (suc n) ≡ list_of f n ++ f n ∷ []
 list_of_more f n = subst (λ (m : ℕ). list_of f m ≡ list_of f n ++ f n ∷ []) (add-one n) (map-range_with_len_more f 0 n n (omega arith))
 
+-- there are n of them
 pub length-list_of : {X : Type 0} (f : ℕ → X) (n : ℕ) → length (list_of f n) ≡ n
 length-list_of f n = length-map-range_with_len f 0 n
 
@@ -106,10 +107,12 @@ abbrev pub free_from : {X : Type 0} → (X → ℕ) → ℕ → List X → ℕ
 free_from finish low [] = low
 free_from finish low (x ∷ xs) = free_from finish (finish x) xs
 
+-- behind one more element
 free_from-more : {X : Type 0} (finish : X → ℕ) (low : ℕ) (xs : List X) (x : X) → free_from finish low (xs ++ x ∷ []) ≡ finish x
 free_from-more finish low [] x = refl
 free_from-more finish low (y ∷ ys) x = free_from-more finish (finish y) ys x
 
+-- one more element that begins where it may
 rises_more : {X : Type 0} (begin finish : X → ℕ) (low : ℕ) (xs : List X) (x : X) → Rises begin finish low xs → free_from finish low xs ≤ begin x
     → Rises begin finish low (xs ++ x ∷ [])
 rises_more begin finish low [] x rise here = (here, tt)
@@ -120,6 +123,7 @@ abbrev pub free_at : {X : Type 0} → (X → ℕ) → ℕ → (ℕ → X) → �
 free_at finish low f zero = low
 free_at finish low f (suc i) = finish (f i)
 
+-- the two bounds are the same
 free_from-list_of : {X : Type 0} (finish : X → ℕ) (low : ℕ) (f : ℕ → X) (n : ℕ) → free_from finish low (list_of f n) ≡ free_at finish low f n
 free_from-list_of finish low f zero = refl
 free_from-list_of finish low f (suc n) = ap (free_from finish low) (list_of_more f n) ∙ free_from-more finish low (list_of f n) (f n)
@@ -137,6 +141,7 @@ pub rises_first : {X : Type 0} (begin finish : X → ℕ) (low : ℕ) (xs : List
 rises_first begin finish low [] x rise here = absurd cc
 rises_first {X} begin finish low (y ∷ ys) x rise here = let same : y ≡ x = cc in subst (λ (z : X). low ≤ begin z) same rise.0
 
+-- an element ends where the next one begins, or before
 pub rises_next : {X : Type 0} (begin finish : X → ℕ) (low : ℕ) (xs : List X) (i : ℕ) (x y : X) → Rises begin finish low xs → slice_get xs i ≡ Some x
     → slice_get xs (suc i) ≡ Some y → finish x ≤ begin y
 rises_next begin finish low [] i x y rise here next = absurd cc

@@ -30,6 +30,7 @@ use Rattle.component_package.proofs.Steps.{faultless_parts}
 
 -- ---- the header
 
+-- a number is what its two bytes say
 two : (n : ℕ) → n % 256 + 256 * (n / 256) ≡ n
 two n = omega arith
 
@@ -53,9 +54,11 @@ header_passes : (b : List ℕ) (n : ℕ) → nat_lt n 32 ≡ false → has_magic
     → has_its_length (header_of b) n ≡ true → header_fault b n ≡ None
 header_passes b n short magic blank even size = rw (short, magic, blank, even, size) refl
 
+-- three even lengths pass their test
 even_passes : (a b c : ℕ) → a % 2 ≡ 0 → b % 2 ≡ 0 → c % 2 ≡ 0 → (is_even a && is_even b && is_even c) ≡ true
 even_passes a b c p q r = rw (p, q, r) refl
 
+-- a length that is the wanted one passes its test
 length_passes : (n m : ℕ) → n ≡ m → n ≤ 9984 → (eqb n m && nat_le n 9984) ≡ true
 length_passes n m same small = rw (eq-eqb n m same, le-leb n 9984 small) refl
 
@@ -70,6 +73,7 @@ header_sound c w =
 
 -- ---- the parts
 
+-- the code of a spelling, and the data
 code_again : (c : Component) → slice_range (spelling c) 32 (32 + length c.code) ≡ c.code
 code_again c =
     let rest = c.init ++ (flat_map export_bytes c.exports ++ flat_map reloc_bytes c.relocs) in
@@ -116,10 +120,12 @@ raw_reloc_again c i r here =
 
 -- ---- exports
 
+-- the byte k says this place and weakness
 record IsPlaceByte (p : Place) (w : Bool) (k : ℕ) : Type 0 where
   pub place : place_of (k % 128) ≡ Some p
   pub weak : nat_le 128 k ≡ w
 
+-- the byte that an export spells says them
 place_again : (p : Place) (weak : Bool) → IsPlaceByte p weak (number_of_place p + cond weak 128 0)
 place_again places.Code false = record { place = refl; weak = refl }
 place_again places.Code true = record { place = refl; weak = refl }
@@ -170,11 +176,13 @@ export_faultless c w i e here =
 
 -- ---- relocations
 
+-- the byte k says this part and weakness
 record IsPartByte (p : Bool) (w : Bool) (k : ℕ) : Type 0 where
   pub below : nat_lt (k % 128) 2 ≡ true
   pub part : eqb (k % 128) 1 ≡ p
   pub weak : nat_le 128 k ≡ w
 
+-- the byte that a relocation spells says them
 part_again : (p weak : Bool) → IsPartByte p weak (cond p 1 0 + cond weak 128 0)
 part_again false false = record { below = refl; part = refl; weak = refl }
 part_again false true = record { below = refl; part = refl; weak = refl }
@@ -187,6 +195,7 @@ reloc_again r fits =
     let p = part_again r.in_init r.weak in
     rw (two r.offset, two r.target, two (cast_unsigned w16 r.addend), to_z-of_z w16 r.addend fits, p.part, p.weak) refl
 
+-- and the decoder finds its type there
 reloc_said_again : (r : Reloc) → FitsSigned w16 r.addend → reloc_of (reloc_bytes r) ≡ r
 reloc_said_again r fits = rw (kind_of-number r.kind) (reloc_again r fits)
 
@@ -207,14 +216,17 @@ behind_again false false code init a w b v former inside some le = le-leb (a + w
 end_in_part : (c : Component) (r : Reloc) → IsReloc c r → reloc_end r ≤ cond r.in_init (length c.init) (length c.code)
 end_in_part c r is = rw (← length_of_part c r) is.inside
 
+-- anything or true
 or_true : (x : Bool) → (x || true) ≡ true
 or_true true = refl
 or_true false = refl
 
+-- an offset that is even where x holds passes its test
 aligned_again : (x : Bool) (n : ℕ) → (IsTrue x → n % 2 ≡ 0) → (not x || eqb (n % 2) 0) ≡ true
 aligned_again true n even = rw (even refl) refl
 aligned_again false n even = refl
 
+-- a target that the grammar allows passes its test
 target_again : (t : ℕ) (weak : Bool) → (t ≤ 10) ⊎ (16 ≤ t) → (IsTrue weak → 16 ≤ t) → (nat_le 16 t || (nat_le t 10 && not weak)) ≡ true
 target_again t weak (inr high) w = rw (le-leb 16 t high) refl
 target_again t true (inl low) w = rw (le-leb 16 t (w refl)) refl
@@ -222,6 +234,7 @@ target_again t false (inl low) w = rw (le-leb t 10 low) (or_true (nat_le 16 t))
 
 -- ---- value bits
 
+-- zeros are all zeros
 replicate_zero : (n : ℕ) → list_all is_zero (replicate n 0) ≡ true
 replicate_zero zero = refl
 replicate_zero (suc n) = replicate_zero n

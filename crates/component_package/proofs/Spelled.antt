@@ -26,6 +26,7 @@ use Rattle.component_package.proofs.First.{none_or, no_fault, chosen, spared}
 use Rattle.component_package.proofs.Lists.{all_zeros, cells, entries}
 use Rattle.component_package.proofs.HeaderLemmas.{good_header, IsGoodHeader, parts_have_lengths}
 
+-- the low byte of a number, and the high one
 low_byte : (x y : ℕ) → x < 256 → (x + 256 * y) % 256 ≡ x
 low_byte x y p = omega arith
 
@@ -55,11 +56,13 @@ pub record IsGoodExport (h : Header) (before : Option ℕ) (raw : List ℕ) : Ty
   pub blank : get_or raw 3 0 ≡ 0
   pub inside : u16_at raw 4 ≤ length_of h (unwrap_or (place_of (get_or raw 2 0 % 128)) places.Code)
 
+-- an export in a place that there is, with a value within it
 record IsGoodPlace (h : Header) (raw : List ℕ) (place : Option Place) : Type 0 where
   pub known : is_some place ≡ true
   pub blank : get_or raw 3 0 ≡ 0
   pub inside : u16_at raw 4 ≤ length_of h (unwrap_or place places.Code)
 
+-- no fault says so
 good_place : (h : Header) (i : ℕ) (raw : List ℕ) (place : Option Place) → result_err (export_in h i raw place) ≡ None → IsGoodPlace h raw place
 good_place h i raw None e = absurd cc
 good_place h i raw (Some place) e =
@@ -120,6 +123,7 @@ pub record IsGoodReloc (h : Header) (before : Option Reloc) (raw field : List �
   pub target : has_target r ≡ true
   pub clear : is_clear r.kind field ≡ true
 
+-- no fault says so, by the type
 good_kind : (h : Header) (before : Option Reloc) (i : ℕ) (raw field : List ℕ) (kind : Option RelocType) → result_err (reloc_in h before i raw field kind) ≡ None
     → IsGoodReloc h before raw field kind (reloc_with raw (unwrap_or kind Abs32))
 good_kind h before i raw field None e = absurd cc
@@ -163,12 +167,14 @@ reloc_there b i bytes whole lt none =
 
 -- ---- the header
 
+-- the four bytes of the magic
 record HasMagic (b : List ℕ) : Type 0 where
   pub first : get_or b 0 0 ≡ 0x46
   pub second : get_or b 1 0 ≡ 0x43
   pub third : get_or b 2 0 ≡ 0x50
   pub fourth : get_or b 3 0 ≡ 0x31
 
+-- the test says so
 magic_there : (b : List ℕ) → has_magic b ≡ true → HasMagic b
 magic_there b e =
     let x = and_parts _ _ e in

@@ -33,12 +33,14 @@ taken_value : {A F : Type 0} (b : Bool) (x : A) (f : F) (y : A) → cond b (Ok x
 taken_value true x f y e = cc
 taken_value false x f y e = absurd cc
 
+-- the value behind a test that was false
 past_value : {A F : Type 0} (b : Bool) (x : A) (f : F) (y : A) → cond b (Err f) (Ok x) ≡ Ok y → y ≡ x
 past_value true x f y e = absurd cc
 past_value false x f y e = cc
 
 -- ---- exports
 
+-- an export in a place that there is
 placed : (h : Header) (i : ℕ) (raw : List ℕ) (place : Option Place) (e : Export) → export_in h i raw place ≡ Ok e
     → e ≡ record (export_of raw) { place = unwrap_or place places.Code }
 placed h i raw None e here = absurd cc
@@ -62,6 +64,7 @@ symbol_after b h before i raw e there result =
 
 -- ---- relocations
 
+-- a relocation of a type that there is, with all tests passed
 accepted : (h : Header) (before : Option Reloc) (i : ℕ) (raw field : List ℕ) (kind : Option RelocType) (r : Reloc)
     → reloc_in h before i raw field kind ≡ Ok r → r ≡ reloc_with raw (unwrap_or kind Abs32)
 accepted h before i raw field None r here = absurd cc
