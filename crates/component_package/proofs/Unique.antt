@@ -5,7 +5,7 @@ use Rattle.component_package.specs.Frames.{Frame, IsFrame, frame_bytes, stream_o
 use Rattle.component_package.specs.Laws.{FramesAreOne}
 
 -- lists that begin alike and are as long
-pub split_same : (a b x y : List ℕ) → length a ≡ length b → a ++ x ≡ b ++ y → (a ≡ b) × (x ≡ y)
+split_same : (a b x y : List ℕ) → length a ≡ length b → a ++ x ≡ b ++ y → (a ≡ b) × (x ≡ y)
 split_same [] [] x y h e = (refl, e)
 split_same [] (v ∷ b) x y h e = absurd (omega arith)
 split_same (u ∷ a) [] x y h e = absurd (omega arith)
@@ -16,7 +16,7 @@ split_same (u ∷ a) (v ∷ b) x y h e =
     ((let p : a ≡ b = r.0 in cc), r.1)
 
 -- the length that a head gives
-pub digits : (m n : ℕ) → m % 256 ≡ n % 256 → m / 256 ≡ n / 256 → m ≡ n
+digits : (m n : ℕ) → m % 256 ≡ n % 256 → m / 256 ≡ n / 256 → m ≡ n
 digits m n p q = omega arith
 
 -- the first frame is the same

@@ -4,7 +4,7 @@ pub mod Programs
 pub mod Rows
 pub mod Runs
 pub mod Slots
-pub mod Stored
+pub mod Motes
 pub mod Formatted
 pub mod Sets
 pub mod Stands

@@ -19,7 +19,7 @@ use Rattle.mote_laws.specs.Steps.{IsUnused}
 use Rattle.mote_laws.specs.Sets.{AreByteSlots, SetsAreFaultless, OtherSetsStay}
 use Rattle.mote_laws.proofs.Kept.{set_kept, components_kept}
 use Rattle.mote_laws.proofs.Slots.{slots_are_found}
-use Rattle.mote_laws.proofs.Stored.{stores_one}
+use Rattle.component_package.proofs.ManifestLaws.{stored_release_is_one}
 
 -- ---- tests
 
@@ -152,8 +152,8 @@ sets_are_faultless = record { faultless = set_faultless; whole = faultless_set; 
 piece_unused : (current side : List ℕ) (m n : StoredRelease) (k : ℕ) (p : Placed) → IsNext current side → Stores current m → Stores side n → slice_get n.placed k ≡ Some p → held_slot m p.entry ≡ None → IsUnused m p.slot
 unfolding IsNext
 piece_unused current side m n k p (m2, r, stores2, release, above, next) stores_m stores_n at new =
-    let current_is : m2 ≡ m = stores_one current m2 m stores2 stores_m in
-    let next_is : slots_for m2 r ≡ n = stores_one side (slots_for m2 r) n next stores_n in
+    let current_is : m2 ≡ m = stored_release_is_one.release current m2 m stores2 stores_m in
+    let next_is : slots_for m2 r ≡ n = stored_release_is_one.release side (slots_for m2 r) n next stores_n in
     let whole : slots_for m r ≡ n = ap (λ (c : StoredRelease). slots_for c r) (sym current_is) ∙ next_is in
     slots_are_found.new m r k p stores_m.stored release (ap (λ (s : StoredRelease). slice_get s.placed k) whole ∙ at) new
 

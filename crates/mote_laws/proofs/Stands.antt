@@ -13,7 +13,8 @@ use Rattle.mote_laws.specs.Stands.{ChoiceIsTheMotes, OnlyCommitsChoose, RestingS
 use Rattle.mote_laws.proofs.Rows.{each_row}
 use Rattle.mote_laws.proofs.Kept.{components_kept}
 use Rattle.mote_laws.proofs.Sets.{other_sets_stay}
-use Rattle.mote_laws.proofs.Stored.{stores_one, comes_next}
+use Rattle.component_package.proofs.ManifestLaws.{stored_release_is_one}
+use Rattle.mote_laws.proofs.Motes.{comes_next}
 
 -- ---- what is chosen
 
@@ -24,7 +25,7 @@ chosen_by p s stands = record { release = stands.current; set = ap (λ (slots : 
 -- and one thing alone
 choice_one : (p : Parts) (c d : Chosen) → Chooses p c → Chooses p d → c ≡ d
 choice_one p c d first second =
-    let release = stores_one (chosen_side p) c.release d.release first.release second.release in
+    let release = stored_release_is_one.release (chosen_side p) c.release d.release first.release second.release in
     let set = flip first.set ∙ ap (components_of p.slots) release ∙ second.set in
     λ i. record { release = release i; set = set i }
 

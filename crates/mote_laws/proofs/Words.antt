@@ -11,12 +11,12 @@ use Rattle.component_package.specs.Sound.{HoldsSet, HasNoCause, HasLateCause, Ha
 use Rattle.component_package.specs.Machine.{Chosen}
 use Rattle.component_package.specs.Headline.{Chooses}
 use Rattle.mote_laws.specs.Words.{WordsSayWhatTheyMean, ImageIsTheChosens}
-use Rattle.mote_laws.proofs.Stored.{stores_one}
+use Rattle.component_package.proofs.ManifestLaws.{stored_release_is_one}
 
 module _ (slots : List (List ℕ)) (side : List ℕ) (m : StoredRelease) (stores : Stores side m) where
   -- the release that a word names is the one that is known
   known : (P : StoredRelease → Type 0) (n : StoredRelease) → Stores side n → P n → P m
-  known P n stores_n holds = subst P (stores_one side n m stores_n stores) holds
+  known P n stores_n holds = subst P (stored_release_is_one.release side n m stores_n stores) holds
 
   -- the set is there
   set_says : HoldsSet slots side ↔ HasSet slots m

@@ -7,7 +7,7 @@ ghost use Rattle.mote_laws.specs.Steps.{ClosingKeeps, WritingKeeps, SlotWritingK
 ghost use Rattle.mote_laws.specs.Programs.{EachPageIsInOnePart, JoinedPageIsPut};
 ghost use Rattle.mote_laws.specs.Runs.{RefusalsChangeNothing, MachineIsTotal, OnlyItsAnswerChanges, CommitsRise, AnswersTellTheCurrent, RunsJoin, CommitsAreWhole};
 ghost use Rattle.mote_laws.specs.Slots.{SlotIsFree, SlotsAreFound};
-ghost use Rattle.mote_laws.specs.Stored.{BytesAreOneRelease, PartsStandForOne};
+ghost use Rattle.mote_laws.specs.Motes.{PartsStandForOne};
 ghost use Rattle.mote_laws.specs.Formatted.{FormattedIsSound};
 ghost use Rattle.mote_laws.specs.Sets.{SetsAreFaultless, OtherSetsStay};
 ghost use Rattle.mote_laws.specs.Stands.{ChoiceIsTheMotes, OnlyCommitsChoose, RestingStepsStand, CutCommitIsWhole, StandingStepsStand};
@@ -101,11 +101,6 @@ pub fn slot_is_free()
 /// Each entry of a release over a stored one has a slot of its own: the held ones theirs, and the others one that the current release doesn't use.
 pub fn slots_are_found()
     ensures { SlotsAreFound }
-{}
-
-/// The bytes of a manifest spell one release, and those of a side store one.
-pub fn bytes_are_one_release()
-    ensures { BytesAreOneRelease }
 {}
 
 /// Sound parts stand for exactly one mote of the machine, whose incoming release is above the current one.
