@@ -1,5 +1,5 @@
 -- The rows of the mote machine, with what is known where each of them is taken.
-use Rattle.std.proofs.Common.{◌≡◌, ℕ, ◌<◌, Bool, true, false, not, cond, eqb, ltb, ◌+◌, ◌*◌, List, [], length, drop, Option, Some, None, is_some, refl, slice_get}
+use Rattle.std.proofs.Common.{◌≡◌, ℕ, ◌<◌, Bool, true, false, not, cond, eqb, ltb, ◌+◌, ◌*◌, List, [], length, drop, Option, Some, None, is_some, refl, slice_get, ap}
 use Rattle.std.specs.Prelude.{slice_index, slice_index_or, slice_set, slice_range}
 use Rattle.std.proofs.lemmas.Bool.{ltb-true, not-false}
 use Rattle.component_package.specs.declared.answer.Answer.{Answer}
@@ -26,7 +26,7 @@ pub record Rows (s : Mote) (f : Frame) (P : Step → Type 0) : Type 0 where
       → P (record { mote = record s { incoming = Some (slots_for s.current (release_in f.payload)); linked = false }; answer = manifest_is s (release_in f.payload) })
   -- a piece that is another than what is there
   pub piece : (m : StoredRelease) (p : Placed) (k page : ℕ) (bytes : List ℕ) → s.standing ≡ false → s.incoming ≡ Some m → slice_get m.placed k ≡ Some p → is_some (held_slot s.current p.entry) ≡ false
-      → is_piece_of p.entry.length page bytes ≡ true
+      → is_piece_of p.entry.length page bytes ≡ true → bytes ≡ drop 2 f.payload
       → P (record { mote = record s { store = slice_set s.store p.slot (with_page_of page bytes (slice_index_or s.store p.slot [])); linked = false }; answer = answers.Piece k page })
   -- LINK of a set that is whole and that nothing refuses
   pub linked : (m : StoredRelease) → s.standing ≡ false → s.incoming ≡ Some m → s.linked ≡ false → set_fault s.store m ≡ None → link_cause (components_of s.store m) ≡ None
@@ -56,20 +56,20 @@ module _ (s : Mote) (f : Frame) (P : Step → Type 0) (rows : Rows s f P) where
       rows.manifest calm is (ltb-true s.current.number (release_in f.payload).number (not-false (ltb s.current.number (release_in f.payload).number) above))))
 
   -- of PIECE, where there is such an entry or not
-  piece_of_row : (payload : List ℕ) (m : StoredRelease) (p : Option Placed) → s.standing ≡ false → s.incoming ≡ Some m → slice_get m.placed (slice_index payload 0) ≡ p → P (take_piece_of s payload p)
-  piece_of_row payload m None calm coming is = rows.refused answers.BadPiece refl refl
-  piece_of_row payload m (Some p) calm coming is =
+  piece_of_row : (payload : List ℕ) (m : StoredRelease) (p : Option Placed) → payload ≡ f.payload → s.standing ≡ false → s.incoming ≡ Some m → slice_get m.placed (slice_index payload 0) ≡ p → P (take_piece_of s payload p)
+  piece_of_row payload m None whole calm coming is = rows.refused answers.BadPiece refl refl
+  piece_of_row payload m (Some p) whole calm coming is =
       split P (is_piece_of p.entry.length (slice_index payload 1) (drop 2 payload)) _ _ (λ fits.
       split P (is_some (held_slot s.current p.entry)) _ _ (λ held. rows.refused (answers.Held (slice_index payload 0)) refl refl) (λ new.
       split P (is_there s p (slice_index payload 1) (drop 2 payload)) _ _ (λ same. rows.refused (answers.Piece (slice_index payload 0) (slice_index payload 1)) refl refl) (λ other.
-      rows.piece m p (slice_index payload 0) (slice_index payload 1) (drop 2 payload) calm coming is new fits)))
+      rows.piece m p (slice_index payload 0) (slice_index payload 1) (drop 2 payload) calm coming is new fits (ap (λ (b : List ℕ). drop 2 b) whole))))
       (λ unfit. rows.refused answers.BadPiece refl refl)
 
   -- of PIECE
   piece_row : (incoming : Option StoredRelease) → s.incoming ≡ incoming → s.standing ≡ false → P (take_piece s f.payload incoming)
   piece_row None is calm = rows.refused answers.NoManifest refl refl
   piece_row (Some m) is calm =
-      split P (ltb (length f.payload) 3) _ _ (λ short. rows.refused answers.BadPiece refl refl) (λ long. piece_of_row f.payload m (slice_get m.placed (slice_index f.payload 0)) calm is refl)
+      split P (ltb (length f.payload) 3) _ _ (λ short. rows.refused answers.BadPiece refl refl) (λ long. piece_of_row f.payload m (slice_get m.placed (slice_index f.payload 0)) refl calm is refl)
 
   -- a cause's line is served
   served_cause : (cause : Cause) → is_served (cause_answer cause) ≡ true

@@ -21,7 +21,7 @@ refusals_change_nothing s f = each_row s f (λ x. is_refusal x.answer ≡ true �
   repeated = λ stands refuses. refl;
   booted = λ refuses. absurd (false≢true refuses);
   manifest = λ calm whole above refuses. absurd (false≢true refuses);
-  piece = λ m p k page bytes calm is at new fits refuses. absurd (false≢true refuses);
+  piece = λ m p k page bytes calm is at new fits said refuses. absurd (false≢true refuses);
   linked = λ m calm is unlinked whole free refuses. absurd (false≢true refuses);
   committed = λ m calm is linked refuses. absurd (false≢true refuses);
   aborted = λ calm refuses. absurd (false≢true refuses);
@@ -34,7 +34,7 @@ serves s f = each_row s f (λ x. is_served x.answer ≡ true) (record {
   repeated = λ stands. refl;
   booted = refl;
   manifest = λ calm whole above. refl;
-  piece = λ m p k page bytes calm is at new fits. refl;
+  piece = λ m p k page bytes calm is at new fits said. refl;
   linked = λ m calm is unlinked whole free. refl;
   committed = λ m calm is linked. refl;
   aborted = λ calm. refl;
@@ -57,7 +57,7 @@ current_kept s f = each_row s f (λ x. ((n : ℕ) → x.answer ≢ answers.Commi
   repeated = λ stands other. refl;
   booted = λ other. refl;
   manifest = λ calm whole above other. refl;
-  piece = λ m p k page bytes calm is at new fits other. refl;
+  piece = λ m p k page bytes calm is at new fits said other. refl;
   linked = λ m calm is unlinked whole free other. refl;
   committed = λ m calm is linked other. absurd (other m.number refl);
   aborted = λ calm other. refl;
@@ -70,7 +70,7 @@ standing_kept s f none = each_row s f (λ x. ((n : ℕ) → x.answer ≢ answers
   repeated = λ stands other. none;
   booted = λ other. refl;
   manifest = λ calm whole above other. none;
-  piece = λ m p k page bytes calm is at new fits other. none;
+  piece = λ m p k page bytes calm is at new fits said other. none;
   linked = λ m calm is unlinked whole free other. none;
   committed = λ m calm is linked other. absurd (other m.number refl);
   aborted = λ calm other. none;
@@ -83,7 +83,7 @@ store_kept s f = each_row s f (λ x. ((k page : ℕ) → x.answer ≢ answers.Pi
   repeated = λ stands other. refl;
   booted = λ other. refl;
   manifest = λ calm whole above other. refl;
-  piece = λ m p k page bytes calm is at new fits other. absurd (other k page refl);
+  piece = λ m p k page bytes calm is at new fits said other. absurd (other k page refl);
   linked = λ m calm is unlinked whole free other. refl;
   committed = λ m calm is linked other. refl;
   aborted = λ calm other. refl;
@@ -98,7 +98,7 @@ incoming_kept s f =
       repeated = λ stands other more most. refl;
       booted = λ other more most. refl;
       manifest = λ calm whole above other more most. absurd (other _ _ refl);
-      piece = λ m p k page bytes calm is at new fits other more most. refl;
+      piece = λ m p k page bytes calm is at new fits said other more most. refl;
       linked = λ m calm is unlinked whole free other more most. refl;
       committed = λ m calm is linked other more most. absurd (more m.number refl);
       aborted = λ calm other more most. absurd (most refl);
@@ -111,7 +111,7 @@ until_boot s f stands = each_row s f (λ x. ((n : ℕ) → x.answer ≢ answers.
   repeated = λ stands other. refl;
   booted = λ other. absurd (other s.current.number refl);
   manifest = λ calm whole above other. absurd (both_ways s.standing calm stands);
-  piece = λ m p k page bytes calm is at new fits other. absurd (both_ways s.standing calm stands);
+  piece = λ m p k page bytes calm is at new fits said other. absurd (both_ways s.standing calm stands);
   linked = λ m calm is unlinked whole free other. absurd (both_ways s.standing calm stands);
   committed = λ m calm is linked other. absurd (both_ways s.standing calm stands);
   aborted = λ calm other. absurd (both_ways s.standing calm stands);
@@ -131,7 +131,7 @@ committed_tells s f n = each_row s f (λ x. x.answer ≡ answers.Committed n →
   repeated = λ stands is. ((let e : s.current.number ≡ n = cc in e), stands);
   booted = λ is. absurd cc;
   manifest = λ calm whole above is. absurd cc;
-  piece = λ m p k page bytes calm coming at new fits is. absurd cc;
+  piece = λ m p k page bytes calm coming at new fits said is. absurd cc;
   linked = λ m calm coming unlinked whole free is. absurd cc;
   committed = λ m calm coming linked is. ((let e : m.number ≡ n = cc in e), refl);
   aborted = λ calm is. absurd cc;
@@ -144,7 +144,7 @@ booted_tells s f n = each_row s f (λ x. x.answer ≡ answers.Booted n → (x.mo
   repeated = λ stands is. absurd cc;
   booted = λ is. ((let e : s.current.number ≡ n = cc in e), refl);
   manifest = λ calm whole above is. absurd cc;
-  piece = λ m p k page bytes calm coming at new fits is. absurd cc;
+  piece = λ m p k page bytes calm coming at new fits said is. absurd cc;
   linked = λ m calm coming unlinked whole free is. absurd cc;
   committed = λ m calm coming linked is. absurd cc;
   aborted = λ calm is. absurd cc;
@@ -188,7 +188,7 @@ rises s f rising = each_row s f (λ x. IsRising x.mote) (record {
   repeated = λ stands. rising;
   booted = rising;
   manifest = λ calm whole above. above;
-  piece = λ m p k page bytes calm is at new fits. rising;
+  piece = λ m p k page bytes calm is at new fits said. rising;
   linked = λ m calm is unlinked whole free. rising;
   committed = λ m calm is linked. tt;
   aborted = λ calm. tt;
@@ -216,7 +216,7 @@ commit_rises s f rising = each_row s f (Rises s) (record {
   repeated = λ stands. record { above = λ commits. absurd (no_commit s.standing commits); same = λ none. refl };
   booted = record { above = λ commits. absurd (false≢true (and_parts (not s.standing) false commits).1); same = λ none. refl };
   manifest = λ calm whole above. record { above = λ commits. absurd (no_commit s.standing commits); same = λ none. refl };
-  piece = λ m p k page bytes calm is at new fits. record { above = λ commits. absurd (no_commit s.standing commits); same = λ none. refl };
+  piece = λ m p k page bytes calm is at new fits said. record { above = λ commits. absurd (no_commit s.standing commits); same = λ none. refl };
   linked = λ m calm is unlinked whole free. record { above = λ commits. absurd (no_commit s.standing commits); same = λ none. refl };
   committed = λ m calm is linked. record {
     above = λ commits. subst (IsAbove s.current.number) is rising;
@@ -247,7 +247,7 @@ keeps_whole s f whole = each_row s f (λ x. IsLinkedWhole x.mote) (record {
   repeated = λ stands. whole;
   booted = λ linked. record { release = (whole linked).release; incoming = (whole linked).incoming; faultless = (whole linked).faultless; free = (whole linked).free };
   manifest = λ calm faultless above linked. absurd (false≢true linked);
-  piece = λ m p k page bytes calm is at new fits linked. absurd (false≢true linked);
+  piece = λ m p k page bytes calm is at new fits said linked. absurd (false≢true linked);
   linked = λ m calm is unlinked faultless free linked. record { release = m; incoming = is; faultless = faultless; free = free };
   committed = λ m calm is was linked. absurd (false≢true linked);
   aborted = λ calm linked. absurd (false≢true linked);
@@ -269,7 +269,7 @@ commit_free s f whole = each_row s f (λ x. (not s.standing && x.mote.standing) 
   repeated = λ stands commits. absurd (no_commit s.standing commits);
   booted = λ commits. absurd (false≢true (and_parts (not s.standing) false commits).1);
   manifest = λ calm faultless above commits. absurd (no_commit s.standing commits);
-  piece = λ m p k page bytes calm is at new fits commits. absurd (no_commit s.standing commits);
+  piece = λ m p k page bytes calm is at new fits said commits. absurd (no_commit s.standing commits);
   linked = λ m calm is unlinked faultless free commits. absurd (no_commit s.standing commits);
   committed = λ m calm is linked commits. free_incoming s m is (whole linked);
   aborted = λ calm commits. absurd (no_commit s.standing commits);

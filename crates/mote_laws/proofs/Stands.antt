@@ -53,7 +53,7 @@ only_commits_choose p s f sound stands = each_row s f (λ x. (not s.standing && 
   repeated = λ stands other. refl;
   booted = λ other. refl;
   manifest = λ calm whole above other. refl;
-  piece = λ m q k page bytes calm is at new fits other.
+  piece = λ m q k page bytes calm is at new fits said other.
       ap (λ (set : List Component). let c : Chosen = record { release = s.current; set = set } in c) (components_kept s.store q.slot _ s.current (piece_apart p s m q k sound stands is at new));
   linked = λ m calm is unlinked whole free other. refl;
   committed = λ m calm is linked other. absurd (both_ways (not s.standing && true) other (and_from (not s.standing) true (not_from_false s.standing calm) refl));
