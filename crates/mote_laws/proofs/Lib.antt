@@ -9,4 +9,5 @@ pub mod Formatted
 pub mod Sets
 pub mod Stands
 pub mod Words
+pub mod Invariant
 mod WrongOrders

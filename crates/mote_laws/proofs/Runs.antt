@@ -241,7 +241,7 @@ commits_rise = record { step = rises; run = λ s fs. run_rises s (boot_frame ∷
 -- ---- what is linked is whole
 
 -- each step keeps a mote so
-keeps_whole : (s : Mote) (f : Frame) → IsLinkedWhole s → IsLinkedWhole (step s f).mote
+pub keeps_whole : (s : Mote) (f : Frame) → IsLinkedWhole s → IsLinkedWhole (step s f).mote
 keeps_whole s f whole = each_row s f (λ x. IsLinkedWhole x.mote) (record {
   refused = λ a served said. whole;
   repeated = λ stands. whole;
@@ -259,7 +259,7 @@ run_keeps_whole s [] whole = whole
 run_keeps_whole s (f ∷ fs) whole = run_keeps_whole (step s f).mote fs (keeps_whole s f whole)
 
 -- nothing refuses the release that comes in, where it is whole
-free_incoming : (s : Mote) (m : StoredRelease) → s.incoming ≡ Some m → IsWhole s → link_cause (components_of s.store m) ≡ None
+pub free_incoming : (s : Mote) (m : StoredRelease) → s.incoming ≡ Some m → IsWhole s → link_cause (components_of s.store m) ≡ None
 free_incoming s m is whole = ap (λ (n : StoredRelease). link_cause (components_of s.store n)) (same_Some m whole.release (sym is ∙ whole.incoming)) ∙ whole.free
 
 -- nothing refuses the set of a commit

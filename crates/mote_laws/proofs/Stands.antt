@@ -37,7 +37,7 @@ comes_in : (p : Parts) (s : Mote) (m : StoredRelease) → StandsFor p s → s.in
 comes_in p s m stands is = subst (StandsForIncoming p) is stands.incoming
 
 -- a slot that is none
-not_held : (o : Option ℕ) → is_some o ≡ false → o ≡ None
+pub not_held : (o : Option ℕ) → is_some o ≡ false → o ≡ None
 not_held None none = refl
 not_held (Some s) none = absurd cc
 

@@ -7,3 +7,4 @@ pub mod Formatted
 pub mod Sets
 pub mod Stands
 pub mod Words
+pub mod Invariant

@@ -12,6 +12,7 @@ ghost use Rattle.mote_laws.specs.Formatted.{FormattedIsSound};
 ghost use Rattle.mote_laws.specs.Sets.{SetsAreFaultless, OtherSetsStay};
 ghost use Rattle.mote_laws.specs.Stands.{ChoiceIsTheMotes, OnlyCommitsChoose, RestingStepsStand, CutCommitIsWhole, StandingStepsStand};
 ghost use Rattle.mote_laws.specs.Words.{WordsSayWhatTheyMean, ImageIsTheChosens};
+ghost use Rattle.mote_laws.specs.Invariant.{MotesStayMotes};
 
 /// Closing Img, Rel, Sym and Man, in this order, keeps a mote sound and what it chooses.
 pub fn closing_keeps()
@@ -156,4 +157,9 @@ pub fn words_say_what_they_mean()
 /// The chosen set's image is in program flash where no commit stands, and staged where one does.
 pub fn image_is_the_chosens()
     ensures { ImageIsTheChosens }
+{}
+
+/// Whatever frames of bytes come, the slots hold the set that boots, nothing refuses it, and it changes where a commit comes to stand alone.
+pub fn motes_stay_motes()
+    ensures { MotesStayMotes }
 {}
