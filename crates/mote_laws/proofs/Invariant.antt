@@ -9,20 +9,25 @@ use Rattle.component_package.specs.Link.{link_cause}
 use Rattle.component_package.specs.Manifest.{StoredRelease, Placed, IsStored, release_in}
 use Rattle.component_package.specs.Store.{HasSet, components_of, held_slot, slots_for}
 use Rattle.component_package.specs.FirstMachine.{filled_page}
+use Rattle.component_package.specs.Sides.{Parts, img, chosen_side, other_side, is_pending}
+use Rattle.component_package.specs.Sound.{IsSound, HasNoCause}
+use Rattle.component_package.specs.Headline.{StandsFor, StandsForIncoming}
 use Rattle.component_package.specs.Frames.{Frame}
 use Rattle.component_package.specs.Machine.{Mote, Chosen, chosen_of, with_page_of, step, boot_frame, mote_from}
-use Rattle.component_package.proofs.ManifestLaws.{faultless_manifests_spell}
+use Rattle.component_package.proofs.ManifestLaws.{faultless_manifests_spell, stored_release_is_one}
 use Rattle.mote_laws.specs.Steps.{IsUnused}
-use Rattle.mote_laws.specs.Runs.{IsWhole}
+use Rattle.mote_laws.specs.Runs.{IsWhole, IsLinkedWhole}
 use Rattle.mote_laws.specs.Sets.{AreByteSlots}
 use Rattle.mote_laws.specs.Formatted.{formatted_mote}
-use Rattle.mote_laws.specs.Invariant.{ComesNext, IsMote, AreByteFrames, MotesStayMotes}
+use Rattle.mote_laws.specs.Invariant.{ComesNext, IsMote, AreByteFrames, MotesStayMotes, SoundIsAMote}
 use Rattle.mote_laws.proofs.Kept.{set_kept, components_kept}
 use Rattle.mote_laws.proofs.Slots.{slots_are_found}
 use Rattle.mote_laws.proofs.Sets.{sets_are_faultless}
 use Rattle.mote_laws.proofs.Rows.{each_row}
 use Rattle.mote_laws.proofs.Runs.{keeps_whole, free_incoming}
-use Rattle.mote_laws.proofs.Stands.{not_held}
+use Rattle.mote_laws.proofs.Stands.{not_held, calm_where_linked, some_comes, coming_where_linked}
+use Rattle.mote_laws.proofs.Motes.{comes_next}
+use Rattle.mote_laws.proofs.Words.{words_say_what_they_mean}
 
 -- ---- bytes
 
@@ -184,3 +189,48 @@ motes_stay_motes = record {
   run = λ s fs bytes mote. run_mote s (boot_frame ∷ fs) (bytes_none, bytes) mote;
   choice = choice_stays;
 }
+
+-- ---- what sound parts stand for
+
+-- the chosen set is whole, and nothing refuses it
+chosen_whole : (p : Parts) (s : Mote) → IsSound p → StandsFor p s → HasSet s.store s.current × (link_cause (components_of s.store s.current) ≡ None)
+chosen_whole p s sound stands =
+    subst (λ (store : List (List ℕ)). HasSet store s.current × (link_cause (components_of store s.current) ≡ None)) (sym stands.store)
+    ((words_say_what_they_mean p.slots (chosen_side p) s.current stands.current).no_cause.0 sound.chosen)
+
+-- what comes in is next
+comes_of : (p : Parts) (s : Mote) → IsSound p → StandsFor p s → (o : Option StoredRelease) → StandsForIncoming p o → ComesNext s.current o
+comes_of p s sound stands None none = tt
+comes_of p s sound stands (Some m) (has, stores) =
+    let next = (words_say_what_they_mean p.slots (chosen_side p) s.current stands.current).next (other_side p) in
+    let found = next.0 (comes_next p sound has) in
+    (found.0, found.1, found.2, stored_release_is_one.release (other_side p) m (slots_for s.current found.0) stores found.3)
+
+-- where Img is open, nothing refuses the other side's set
+listed_free : (p : Parts) → IsSound p → is_pending p ≡ false → p.gates img ≡ true → HasNoCause p.slots (other_side p)
+listed_free p sound calm image = grind arith
+
+-- what is linked is whole
+linked_whole : (p : Parts) (s : Mote) → IsSound p → StandsFor p s → IsLinkedWhole s
+linked_whole p s sound stands linked =
+    let gates = calm_where_linked p (sym stands.linked ∙ linked) in
+    let comes = some_comes p s.incoming (coming_where_linked p sound gates.0 gates.1) stands.incoming in
+    let says = (words_say_what_they_mean p.slots (other_side p) comes.0 comes.2).no_cause.0 (listed_free p sound gates.0 gates.1) in
+    record {
+      release = comes.0;
+      incoming = comes.1;
+      faultless = sets_are_faultless.faultless s.store comes.0 (subst (λ (store : List (List ℕ)). HasSet store comes.0) (sym stands.store) says.0);
+      free = subst (λ (store : List (List ℕ)). link_cause (components_of store comes.0) ≡ None) (sym stands.store) says.1;
+    }
+
+pub sound_is_a_mote : SoundIsAMote
+sound_is_a_mote p s sound stands bytes =
+    let chosen = chosen_whole p s sound stands in
+    record {
+      bytes = subst AreByteSlots (sym stands.store) bytes;
+      current = stands.current.stored;
+      set = chosen.0;
+      free = chosen.1;
+      incoming = comes_of p s sound stands s.incoming stands.incoming;
+      linked = linked_whole p s sound stands;
+    }

@@ -146,7 +146,7 @@ resting_steps_stand = record {
 -- ---- a commit
 
 -- where the mote is linked, no commit stands, and a release comes in
-calm_where_linked : (p : Parts) → is_linked p ≡ true → (is_pending p ≡ false) × (p.gates img ≡ true)
+pub calm_where_linked : (p : Parts) → is_linked p ≡ true → (is_pending p ≡ false) × (p.gates img ≡ true)
 calm_where_linked p is = at (is_pending p) refl is
   where
     at : (b : Bool) → is_pending p ≡ b → cond b false (p.gates img) ≡ true → (is_pending p ≡ false) × (p.gates img ≡ true)
@@ -154,11 +154,11 @@ calm_where_linked p is = at (is_pending p) refl is
     at false is h = (is, h)
 
 -- Img rests on Man
-coming_where_linked : (p : Parts) → IsSound p → is_pending p ≡ false → p.gates img ≡ true → has_incoming p ≡ true
+pub coming_where_linked : (p : Parts) → IsSound p → is_pending p ≡ false → p.gates img ≡ true → has_incoming p ≡ true
 coming_where_linked p sound calm image = grind arith
 
 -- the release that comes in
-some_comes : (p : Parts) (o : Option StoredRelease) → has_incoming p ≡ true → StandsForIncoming p o → (m : StoredRelease) × (o ≡ Some m) × Stores (other_side p) m
+pub some_comes : (p : Parts) (o : Option StoredRelease) → has_incoming p ≡ true → StandsForIncoming p o → (m : StoredRelease) × (o ≡ Some m) × Stores (other_side p) m
 some_comes p None has stands = absurd (both_ways (has_incoming p) stands has)
 some_comes p (Some m) has stands = (m, refl, stands.1)
 

@@ -5,6 +5,9 @@ use Rattle.avr_reloc.specs.Field.{AreBytes}
 use Rattle.component_package.specs.Link.{link_cause}
 use Rattle.component_package.specs.Manifest.{Release, StoredRelease, IsRelease, IsStored}
 use Rattle.component_package.specs.Store.{HasSet, components_of, slots_for}
+use Rattle.component_package.specs.Sides.{Parts}
+use Rattle.component_package.specs.Sound.{IsSound}
+use Rattle.component_package.specs.Headline.{StandsFor}
 use Rattle.component_package.specs.Frames.{Frame}
 use Rattle.component_package.specs.Machine.{Mote, chosen_of, commits, step, session_mote}
 use Rattle.mote_laws.specs.Runs.{IsLinkedWhole}
@@ -35,3 +38,7 @@ pub record MotesStayMotes : Type 0 where
   pub each : (s : Mote) (f : Frame) → AreBytes f.payload → IsMote s → IsMote (step s f).mote
   pub run : (s : Mote) (fs : List Frame) → AreByteFrames fs → IsMote s → IsMote (session_mote s fs)
   pub choice : (s : Mote) (f : Frame) → IsMote s → commits s f ≡ false → chosen_of (step s f).mote ≡ chosen_of s
+
+-- What sound parts stand for is such a mote, where their slots hold bytes.
+abbrev pub SoundIsAMote : Type 0
+SoundIsAMote = (p : Parts) (s : Mote) → IsSound p → StandsFor p s → AreByteSlots p.slots → IsMote s

@@ -12,7 +12,7 @@ ghost use Rattle.mote_laws.specs.Formatted.{FormattedIsSound};
 ghost use Rattle.mote_laws.specs.Sets.{SetsAreFaultless, OtherSetsStay};
 ghost use Rattle.mote_laws.specs.Stands.{ChoiceIsTheMotes, OnlyCommitsChoose, RestingStepsStand, CutCommitIsWhole, StandingStepsStand};
 ghost use Rattle.mote_laws.specs.Words.{WordsSayWhatTheyMean, ImageIsTheChosens};
-ghost use Rattle.mote_laws.specs.Invariant.{MotesStayMotes};
+ghost use Rattle.mote_laws.specs.Invariant.{MotesStayMotes, SoundIsAMote};
 
 /// Closing Img, Rel, Sym and Man, in this order, keeps a mote sound and what it chooses.
 pub fn closing_keeps()
@@ -162,4 +162,9 @@ pub fn image_is_the_chosens()
 /// Whatever frames of bytes come, the slots hold the set that boots, nothing refuses it, and it changes where a commit comes to stand alone.
 pub fn motes_stay_motes()
     ensures { MotesStayMotes }
+{}
+
+/// What sound parts stand for is such a mote, where their slots hold bytes.
+pub fn sound_is_a_mote()
+    ensures { SoundIsAMote }
 {}
