@@ -57,6 +57,7 @@ update = refl
 abbrev again : List Frame
 again = frame 1 manifest ∷ frame 2 (1 ∷ 0 ∷ q) ∷ frame 2 (0 ∷ 0 ∷ p) ∷ bare 3 ∷ []
 
+-- the answers repeat
 repeated : session_answers formatted (frame 1 manifest ∷ frame 2 (0 ∷ 0 ∷ p) ∷ frame 2 (1 ∷ 0 ∷ q) ∷ bare 3 ∷ (again ++ again)) ≡
     Booted 0 ∷ ManifestIs 1 0 ∷ Piece 0 0 ∷ Piece 1 0 ∷ Linked 1 ∷ ManifestIs 1 0 ∷ Piece 1 0 ∷ Piece 0 0 ∷ Linked 1 ∷ ManifestIs 1 0 ∷ Piece 1 0 ∷ Piece 0 0 ∷ Linked 1 ∷ []
 unfolding sha256 digest_bytes hash_after compress rounds schedule first_words link_cause filled_page
@@ -85,6 +86,7 @@ short_manifest = refl
 abbrev linked_mote : Mote
 linked_mote = mote_from formatted (frame 1 manifest ∷ frame 2 (0 ∷ 0 ∷ p) ∷ frame 2 (1 ∷ 0 ∷ q) ∷ bare 3 ∷ [])
 
+-- both outcomes
 cut_commit : (session_answers (step linked_mote (bare 4)).mote (bare 6 ∷ []) ≡ Booted 1 ∷ Status 1 0 0 ∷ []) × (session_answers linked_mote (bare 6 ∷ bare 4 ∷ []) ≡ Booted 0 ∷ Status 0 1 2 ∷ Committed 1 ∷ [])
 unfolding sha256 digest_bytes hash_after compress rounds schedule first_words link_cause filled_page
 cut_commit = (refl, refl)
@@ -100,6 +102,7 @@ header component version code exports relocs =
 abbrev first : List ℕ
 first = header 1 1 1000 0 1 ++ (14 ∷ 148 ∷ 0 ∷ 0 ∷ replicate 996 0) ++ 0 ∷ 0 ∷ 0 ∷ 18 ∷ 16 ∷ 0 ∷ 0 ∷ 0 ∷ []
 
+-- its digest, and so for those below
 abbrev digest_first : List ℕ
 digest_first = 121 ∷ 217 ∷ 216 ∷ 238 ∷ 26 ∷ 234 ∷ 194 ∷ 13 ∷ 153 ∷ 215 ∷ 125 ∷ 132 ∷ 92 ∷ 142 ∷ 194 ∷ 129 ∷ 200 ∷ 58 ∷ 107 ∷ 28 ∷ 1 ∷ 253 ∷ 108 ∷ 155 ∷ 109 ∷ 150 ∷ 184 ∷ 222 ∷ 83 ∷ 38 ∷ 99 ∷ 125 ∷ []
 
@@ -142,18 +145,20 @@ digest_third_later = 81 ∷ 251 ∷ 14 ∷ 158 ∷ 228 ∷ 40 ∷ 145 ∷ 181 �
 abbrev entry : ℕ → ℕ → ℕ → List ℕ → List ℕ
 entry component version length digest = u16_bytes component ++ u16_bytes version ++ u16_bytes length ++ digest
 
--- the release of all five, and the one that replaces the third
+-- the release of all five
 abbrev manifest_of_five : List ℕ
 manifest_of_five = 1 ∷ 0 ∷ 0 ∷ 0 ∷ 5 ∷ (entry 1 1 1040 digest_first ++ entry 2 1 1032 digest_second ++ entry 3 1 1032 digest_third ++ entry 4 1 1032 digest_fourth ++ entry 5 1 1038 digest_fifth)
 
+-- the one that replaces the third
 abbrev manifest_of_later : List ℕ
 manifest_of_later = 2 ∷ 0 ∷ 0 ∷ 0 ∷ 5 ∷ (entry 1 1 1040 digest_first ++ entry 2 1 1032 digest_second ++ entry 3 2 1332 digest_third_later ++ entry 4 1 1032 digest_fourth ++ entry 5 1 1038 digest_fifth)
 
--- the pieces of a package from one page on, and their answers
+-- so many pieces of a package from one page on
 abbrev pieces : ℕ → ℕ → ℕ → List ℕ → List Frame
 pieces k page zero b = []
 pieces k page (suc n) b = frame 2 (k ∷ page ∷ take 256 b) ∷ pieces k (page + 1) n (drop 256 b)
 
+-- the answers to so many pieces
 abbrev stored : ℕ → ℕ → ℕ → List Answer
 stored k page zero = []
 stored k page (suc n) = Piece k page ∷ stored k (page + 1) n
@@ -221,20 +226,25 @@ abbrev entries_from : ℕ → ℕ → List (List ℕ) → List ℕ
 entries_from component version [] = []
 entries_from component version (d ∷ ds) = entry component version 34 d ++ entries_from (component + 1) version ds
 
+-- a release of sixteen
 abbrev sixteen : ℕ → List (List ℕ) → List ℕ
 sixteen release digests = release ∷ 0 ∷ 0 ∷ 0 ∷ 16 ∷ entries_from 1 release digests
 
+-- a piece for each
 abbrev small_pieces : ℕ → ℕ → ℕ → List Frame
 small_pieces k version zero = []
 small_pieces k version (suc n) = frame 2 (k ∷ 0 ∷ small (k + 1) version) ∷ small_pieces (k + 1) version n
 
+-- and its answer
 abbrev small_stored : ℕ → ℕ → List Answer
 small_stored k zero = []
 small_stored k (suc n) = Piece k 0 ∷ small_stored (k + 1) n
 
+-- both updates
 abbrev all_sixteen : List Frame
 all_sixteen = frame 1 (sixteen 1 digests_1) ∷ (small_pieces 0 1 16 ++ bare 3 ∷ bare 4 ∷ bare 5 ∷ frame 1 (sixteen 2 digests_2) ∷ (small_pieces 0 2 16 ++ bare 3 ∷ bare 4 ∷ bare 5 ∷ []))
 
+-- sixteen are replaced by sixteen others
 replaced : session_answers formatted all_sixteen ≡
     Booted 0 ∷ ManifestIs 1 0 ∷ (small_stored 0 16 ++ Linked 1 ∷ Committed 1 ∷ Booted 1 ∷ ManifestIs 2 0 ∷ (small_stored 0 16 ++ Linked 2 ∷ Committed 2 ∷ Booted 2 ∷ []))
 unfolding sha256 digest_bytes hash_after compress rounds schedule first_words link_cause filled_page

@@ -1,5 +1,5 @@
 -- A slot that a release doesn't use can hold anything: its set stays.
-use Rattle.std.proofs.Common.{◌≡◌, ◌≢◌, ℕ, List, [], ◌∷◌, Bool, true, false, None, map, set, take, sym, ◌∙◌, ap, subst, refl, eqb, get_or-set_other, arith}
+use Rattle.std.proofs.Common.{◌≡◌, ◌≢◌, ℕ, List, [], ◌∷◌, false, map, set, take, sym, ◌∙◌, ap, subst, refl, get_or-set_other, arith}
 use Rattle.std.specs.List.{AllByRecursion}
 use Rattle.sha2.specs.Sha256.{sha256}
 use Rattle.component_package.specs.Grammar.{Spells}
@@ -37,17 +37,21 @@ packages_kept store s bytes (p ∷ ps) unused =
     let rest = packages_kept store s bytes ps others in
     (λ all. (holds_kept store (set store s bytes) p same all.0, rest.0 all.1), (let one : component_of (package_in (set store s bytes) p) ≡ component_of (package_in store p) = ap component_of same in cc (one, rest.1)))
 
+-- the set
 pub set_kept : (store : List (List ℕ)) (s : ℕ) (bytes : List ℕ) (m : StoredRelease) → IsUnused m s → HasSet store m → HasSet (set store s bytes) m
 set_kept store s bytes m unused = (packages_kept store s bytes m.placed unused).0
 
+-- its components
 pub components_kept : (store : List (List ℕ)) (s : ℕ) (bytes : List ℕ) (m : StoredRelease) → IsUnused m s → components_of (set store s bytes) m ≡ components_of store m
 components_kept store s bytes m unused = (packages_kept store s bytes m.placed unused).1
 
+-- that nothing refuses it
 pub no_cause_kept : (store : List (List ℕ)) (s : ℕ) (bytes side : List ℕ) → ((m : StoredRelease) → Stores side m → IsUnused m s) → HasNoCause store side → HasNoCause (set store s bytes) side
 unfolding HasNoCause
 no_cause_kept store s bytes side unused (m, stores, has, none) =
     (m, stores, set_kept store s bytes m (unused m stores) has, ap link_cause (components_kept store s bytes m (unused m stores)) ∙ none)
 
+-- its image
 pub image_kept : (store : List (List ℕ)) (s : ℕ) (bytes side : List ℕ) (pages : List (List ℕ)) → ((m : StoredRelease) → Stores side m → IsUnused m s) → HasImage store side pages
     → HasImage (set store s bytes) side pages
 unfolding HasImage

@@ -4,8 +4,10 @@ pub mod Programs
 pub mod Rows
 pub mod Runs
 pub mod Slots
-pub mod Stored
+pub mod Motes
 pub mod Formatted
 pub mod Sets
 pub mod Stands
+pub mod Words
+pub mod Invariant
 mod WrongOrders

@@ -1,18 +1,19 @@
 -- What the parts of a mote become when one page is programmed.
-use Rattle.std.proofs.Common.{◌≡◌, ◌≢◌, ◌&&◌, cond, inl, inr, ◌⊎◌, ⊎_elim, ℕ, zero, suc, ◌+◌, ◌-◌, ◌*◌, ◌<◌, ◌≤◌, Bool, true, false, List, [], ◌∷◌, ◌++◌, length, take, drop, map, set, get_or, eqb, ltb, refl, sym, ap, ◌∙◌, arith, append_assoc, get_or-set_same, get_or-set_other, length-set}
+use Rattle.std.proofs.Common.{Bool, true, false, cond, ◌≡◌, ◌≢◌, ◌&&◌, inl, inr, ◌⊎◌, ⊎_elim, ℕ, zero, suc, ◌+◌, ◌-◌, ◌*◌, ◌<◌, ◌≤◌, List, [], ◌∷◌, ◌++◌, length, take, drop, map, set, get_or, eqb, ltb, refl, sym, ap, ◌∙◌, arith, append_assoc, get_or-set_same, get_or-set_other, length-set}
 use Rattle.std.proofs.lemmas.Bool.Decides.{nat_tests}
 use Rattle.std.proofs.lemmas.List.{drop-set-lt, drop-set-add, take-set-le, same_lists, drop_at}
 use Rattle.std.proofs.lemmas.Bool.{cases_lt, cases_eq, cases_order}
 use Rattle.std.proofs.lemmas.List.FromFn.{length-map-range_with_len, get_or-map-range_with_len}
-use Rattle.std.specs.List.{concat, range_with_len, AllByRecursion}
+use Rattle.std.specs.List.{concat, range_with_len}
 use Rattle.component_package.specs.Store.{slot_at, slots_of}
-use Rattle.component_package.specs.Sides.{is_open, parts_of, pages_from}
-use Rattle.mote_laws.specs.Steps.{with_gate}
-use Rattle.mote_laws.specs.Programs.{IsWholePage, EachPageIsInOnePart, JoinedPageIsPut}
+use Rattle.component_package.specs.Sides.{is_open, is_on_b, parts_of, pages_from}
+use Rattle.mote_laws.specs.Programs.{EachPageIsInOnePart, JoinedPageIsPut}
 
+-- what is behind some pages after one of those is set
 drop_set : (n : ℕ) (l : List (List ℕ)) (page i : ℕ) (bytes : List ℕ) → page ≡ n + i → drop n (set l page bytes) ≡ set (drop n l) i bytes
 drop_set n l page i bytes is = ap (λ p. drop n (set l p bytes)) is ∙ drop-set-add n l i bytes
 
+-- the first pages after one of them is set
 take_set : (n : ℕ) (l : List (List ℕ)) (i : ℕ) (bytes : List ℕ) → i < n → take n (set l i bytes) ≡ set (take n l) i bytes
 take_set zero l i bytes within = absurd (omega arith)
 take_set (suc n) [] i bytes within = refl
@@ -23,11 +24,13 @@ take_set (suc n) (x ∷ l) (suc i) bytes within = ap (λ (k : List (List ℕ)). 
 pub pages_before : (first count : ℕ) (ext : List (List ℕ)) (page : ℕ) (bytes : List ℕ) → page < first → pages_from first count (set ext page bytes) ≡ pages_from first count ext
 pages_before first count ext page bytes before = ap (λ (l : List (List ℕ)). take count l) (drop-set-lt first ext page bytes before)
 
+-- behind them
 pub pages_behind : (first count : ℕ) (ext : List (List ℕ)) (page : ℕ) (bytes : List ℕ) → first + count ≤ page → pages_from first count (set ext page bytes) ≡ pages_from first count ext
 pages_behind first count ext page bytes behind =
     ap (λ (l : List (List ℕ)). take count l) (drop_set first ext page (page - first) bytes (omega arith))
     ∙ take-set-le count (drop first ext) (page - first) bytes (omega arith)
 
+-- among them
 pub pages_within : (first count : ℕ) (ext : List (List ℕ)) (page : ℕ) (bytes : List ℕ) → first ≤ page → page < first + count
     → pages_from first count (set ext page bytes) ≡ set (pages_from first count ext) (page - first) bytes
 pages_within first count ext page bytes from to =
@@ -45,6 +48,7 @@ gate_is ext page bytes g low long = ⊎_elim same other (cases_eq g page)
         let open_as : is_open (set ext page bytes) g ≡ eqb (get_or bytes 0 0) 165 = ap (λ (l : List ℕ). eqb (get_or l 0 0) 165) held in
         let small : g < 8 = omega arith in
         grind (arith, nat_tests)
+
     other : (g ≡ page → ⊥) → (ltb g 8 && is_open (set ext page bytes) g) ≡ cond (eqb g page) (eqb (get_or bytes 0 0) 165) (ltb g 8 && is_open ext g)
     other apart =
         let held : get_or (set ext page bytes) g [] ≡ get_or ext g [] = get_or-set_other ext page g bytes [] apart in
@@ -59,6 +63,7 @@ gate_kept ext page bytes g high = ⊎_elim low past (cases_lt g 8)
     low small =
         let apart : g ≢ page = omega arith in
         ap (λ (l : List ℕ). ltb g 8 && eqb (get_or l 0 0) 165) (get_or-set_other ext page g bytes [] apart)
+
     past : 8 ≤ g → (ltb g 8 && is_open (set ext page bytes) g) ≡ (ltb g 8 && is_open ext g)
     past large = grind (arith, nat_tests)
 
@@ -78,6 +83,7 @@ slots_kept ext page bytes where_it_is = same_lists _ _ lengths each
   where
     lengths : length (map (slot_at (set ext page bytes)) (range_with_len 0 32)) ≡ length (map (slot_at ext) (range_with_len 0 32))
     lengths = length-map-range_with_len (slot_at (set ext page bytes)) 0 32 ∙ sym (length-map-range_with_len (slot_at ext) 0 32)
+
     each : (k : ℕ) (d : List ℕ) → k < length (map (slot_at (set ext page bytes)) (range_with_len 0 32)) → get_or (map (slot_at (set ext page bytes)) (range_with_len 0 32)) k d ≡ get_or (map (slot_at ext) (range_with_len 0 32)) k d
     each k d within =
         let small : k < 32 = omega (arith, length-map-range_with_len (slot_at (set ext page bytes)) 0 32) in
@@ -93,19 +99,62 @@ slots_set ext s i bytes slot_low page_low = same_lists _ _ lengths each
   where
     lengths : length (map (slot_at (set ext (786 + 39 * s + i) bytes)) (range_with_len 0 32)) ≡ length (set (map (slot_at ext) (range_with_len 0 32)) s (concat (set (pages_from (786 + 39 * s) 39 ext) i bytes)))
     lengths = length-map-range_with_len (slot_at (set ext (786 + 39 * s + i) bytes)) 0 32 ∙ sym (length-set (map (slot_at ext) (range_with_len 0 32)) s (concat (set (pages_from (786 + 39 * s) 39 ext) i bytes)) ∙ length-map-range_with_len (slot_at ext) 0 32)
+
     here : slot_at (set ext (786 + 39 * s + i) bytes) s ≡ concat (set (pages_from (786 + 39 * s) 39 ext) i bytes)
     here = ap concat (pages_within (786 + 39 * s) 39 ext (786 + 39 * s + i) bytes (omega arith) (omega arith) ∙ ap (λ j. set (pages_from (786 + 39 * s) 39 ext) j bytes) (let e : (786 + 39 * s + i) - (786 + 39 * s) ≡ i = omega arith in e))
+
     each : (k : ℕ) (d : List ℕ) → k < length (map (slot_at (set ext (786 + 39 * s + i) bytes)) (range_with_len 0 32))
         → get_or (map (slot_at (set ext (786 + 39 * s + i) bytes)) (range_with_len 0 32)) k d ≡ get_or (set (map (slot_at ext) (range_with_len 0 32)) s (concat (set (pages_from (786 + 39 * s) 39 ext) i bytes))) k d
     each k d within =
         let small : k < 32 = omega (arith, length-map-range_with_len (slot_at (set ext (786 + 39 * s + i) bytes)) 0 32) in
         get_or-map-range_with_len (slot_at (set ext (786 + 39 * s + i) bytes)) 0 32 k k d small (omega arith)
         ∙ ⊎_elim
-            (λ same. ap (λ j. slot_at (set ext (786 + 39 * s + i) bytes) j) same ∙ here ∙ sym (ap (λ j. get_or (set (map (slot_at ext) (range_with_len 0 32)) s (concat (set (pages_from (786 + 39 * s) 39 ext) i bytes))) j d) same
-                ∙ get_or-set_same (map (slot_at ext) (range_with_len 0 32)) s (concat (set (pages_from (786 + 39 * s) 39 ext) i bytes)) d (omega (arith, length-map-range_with_len (slot_at ext) 0 32))))
-            (λ apart. slot_apart ext (786 + 39 * s + i) bytes k (⊎_elim (λ below. inr (omega arith)) (λ above. inl (omega arith)) (less_or_more k s apart))
-                ∙ sym (get_or-set_other (map (slot_at ext) (range_with_len 0 32)) s k (concat (set (pages_from (786 + 39 * s) 39 ext) i bytes)) d apart ∙ get_or-map-range_with_len (slot_at ext) 0 32 k k d small (omega arith)))
-            (cases_eq k s)
+        (λ same. ap (λ j. slot_at (set ext (786 + 39 * s + i) bytes) j) same ∙ here ∙ sym (ap (λ j. get_or (set (map (slot_at ext) (range_with_len 0 32)) s (concat (set (pages_from (786 + 39 * s) 39 ext) i bytes))) j d) same
+        ∙ get_or-set_same (map (slot_at ext) (range_with_len 0 32)) s (concat (set (pages_from (786 + 39 * s) 39 ext) i bytes)) d (omega (arith, length-map-range_with_len (slot_at ext) 0 32))))
+        (λ apart. slot_apart ext (786 + 39 * s + i) bytes k (⊎_elim (λ below. inr (omega arith)) (λ above. inl (omega arith)) (less_or_more k s apart))
+        ∙ sym (get_or-set_other (map (slot_at ext) (range_with_len 0 32)) s k (concat (set (pages_from (786 + 39 * s) 39 ext) i bytes)) d apart ∙ get_or-map-range_with_len (slot_at ext) 0 32 k k d small (omega arith)))
+        (cases_eq k s)
+
+-- a page of either side
+in_side_a : (prog ext : List (List ℕ)) (page : ℕ) (bytes : List ℕ) → 8 ≤ page → page < 13
+    → parts_of prog (set ext page bytes) ≡ record (parts_of prog ext) { side_a = concat (set (pages_from 8 5 ext) (page - 8) bytes) }
+in_side_a prog ext page bytes from to = λ x. record {
+  gates = λ g. gate_kept ext page bytes g from x;
+  prog = prog;
+  side_a = concat (pages_within 8 5 ext page bytes from to x);
+  side_b = concat (pages_before 13 5 ext page bytes to x);
+  symbols = concat (pages_before 18 32 ext page bytes (omega arith) x);
+  relocs = concat (pages_before 50 256 ext page bytes (omega arith) x);
+  staged = pages_before 306 480 ext page bytes (omega arith) x;
+  slots = slots_kept ext page bytes (inl (omega arith)) x;
+}
+
+-- the same for side B
+in_side_b : (prog ext : List (List ℕ)) (page : ℕ) (bytes : List ℕ) → 13 ≤ page → page < 18
+    → parts_of prog (set ext page bytes) ≡ record (parts_of prog ext) { side_b = concat (set (pages_from 13 5 ext) (page - 13) bytes) }
+in_side_b prog ext page bytes from to = λ x. record {
+  gates = λ g. gate_kept ext page bytes g (omega arith) x;
+  prog = prog;
+  side_a = concat (pages_behind 8 5 ext page bytes from x);
+  side_b = concat (pages_within 13 5 ext page bytes from to x);
+  symbols = concat (pages_before 18 32 ext page bytes to x);
+  relocs = concat (pages_before 50 256 ext page bytes (omega arith) x);
+  staged = pages_before 306 480 ext page bytes (omega arith) x;
+  slots = slots_kept ext page bytes (inl (omega arith)) x;
+}
+
+-- and of the one that isn't chosen
+in_either : (prog ext : List (List ℕ)) (b : Bool) (i : ℕ) (bytes : List ℕ) → i < 5
+    → parts_of prog (set ext (cond b 8 13 + i) bytes) ≡ record (parts_of prog ext) {
+      side_a = cond b (concat (set (pages_from (cond b 8 13) 5 ext) i bytes)) (concat (pages_from 8 5 ext));
+      side_b = cond b (concat (pages_from 13 5 ext)) (concat (set (pages_from (cond b 8 13) 5 ext) i bytes));
+    }
+in_either prog ext true i bytes low =
+    let place : (8 + i) - 8 ≡ i = omega arith in
+    in_side_a prog ext (8 + i) bytes (omega arith) (omega arith) ∙ ap (λ k. record (parts_of prog ext) { side_a = concat (set (pages_from 8 5 ext) k bytes) }) place
+in_either prog ext false i bytes low =
+    let place : (13 + i) - 13 ≡ i = omega arith in
+    in_side_b prog ext (13 + i) bytes (omega arith) (omega arith) ∙ ap (λ k. record (parts_of prog ext) { side_b = concat (set (pages_from 13 5 ext) k bytes) }) place
 
 pub each_page_is_in_one_part : EachPageIsInOnePart
 each_page_is_in_one_part = record {
@@ -119,26 +168,9 @@ each_page_is_in_one_part = record {
     staged = pages_before 306 480 ext page bytes (omega arith) x;
     slots = slots_kept ext page bytes (inl (omega arith)) x;
   };
-  side_a = λ prog ext page bytes from to. λ x. record {
-    gates = λ g. gate_kept ext page bytes g from x;
-    prog = prog;
-    side_a = concat (pages_within 8 5 ext page bytes from to x);
-    side_b = concat (pages_before 13 5 ext page bytes to x);
-    symbols = concat (pages_before 18 32 ext page bytes (omega arith) x);
-    relocs = concat (pages_before 50 256 ext page bytes (omega arith) x);
-    staged = pages_before 306 480 ext page bytes (omega arith) x;
-    slots = slots_kept ext page bytes (inl (omega arith)) x;
-  };
-  side_b = λ prog ext page bytes from to. λ x. record {
-    gates = λ g. gate_kept ext page bytes g (omega arith) x;
-    prog = prog;
-    side_a = concat (pages_behind 8 5 ext page bytes from x);
-    side_b = concat (pages_within 13 5 ext page bytes from to x);
-    symbols = concat (pages_before 18 32 ext page bytes to x);
-    relocs = concat (pages_before 50 256 ext page bytes (omega arith) x);
-    staged = pages_before 306 480 ext page bytes (omega arith) x;
-    slots = slots_kept ext page bytes (inl (omega arith)) x;
-  };
+  side_a = in_side_a;
+  side_b = in_side_b;
+  other = λ prog ext i bytes low. in_either prog ext (is_on_b (parts_of prog ext)) i bytes low;
   symbols = λ prog ext page bytes from to. λ x. record {
     gates = λ g. gate_kept ext page bytes g (omega arith) x;
     prog = prog;
@@ -206,8 +238,8 @@ joined_page_is_put (p ∷ pages) (suc i) bytes whole within =
     take_past [] q n m is = ap (λ k. take k q) (let e : n ≡ m = omega arith in e)
     take_past (x ∷ p) q zero m is = absurd (omega arith)
     take_past (x ∷ p) q (suc n) m is = ap (λ (l : List ℕ). x ∷ l) (take_past p q n m (omega arith))
+
     drop_past : (p q : List ℕ) (n m : ℕ) → n ≡ length p + m → drop n (p ++ q) ≡ drop m q
     drop_past [] q n m is = ap (λ k. drop k q) (let e : n ≡ m = omega arith in e)
     drop_past (x ∷ p) q zero m is = absurd (omega arith)
     drop_past (x ∷ p) q (suc n) m is = drop_past p q n m (omega arith)
-

@@ -5,10 +5,10 @@ use Rattle.std.specs.List.{list_any, range_with_len, AllByRecursion}
 use Rattle.std.specs.Option.{option_map}
 use Rattle.std.proofs.lemmas.List.{length-map}
 use Rattle.std.proofs.lemmas.Option.{same_Some}
-use Rattle.std.proofs.lemmas.Bool.{eqb-true, eq-eqb, both_ways, or_parts, or_from, or_left, or_right, not-true, not-false, cases_Bool, ne_eqb, and_parts}
+use Rattle.std.proofs.lemmas.Bool.{eqb-true, eq-eqb, both_ways, or_parts, or_from, or_left, or_right, cases_Bool, ne_eqb, and_parts}
 use Rattle.component_package.specs.declared.manifest.Entry.{Entry}
-use Rattle.component_package.specs.Manifest.{Release, Placed, StoredRelease, IsManifestEntry, IsRelease, IsStored, AreDistinct, released}
-use Rattle.component_package.specs.Store.{is_same, is_same_entry, held_slot, is_taken, least_free, place_entry, placed_from, slots_for}
+use Rattle.component_package.specs.Manifest.{Release, Placed, StoredRelease, IsManifestEntry, IsRelease, IsStored, AreDistinct}
+use Rattle.component_package.specs.Store.{is_same_entry, held_slot, is_taken, least_free, place_entry, placed_from}
 use Rattle.mote_laws.specs.Steps.{IsUnused}
 use Rattle.mote_laws.specs.Slots.{SlotIsFree, SlotsAreFound}
 
@@ -19,6 +19,7 @@ abbrev taken_among : List ℕ → ℕ → ℕ → ℕ
 taken_among taken a zero = 0
 taken_among taken a (suc n) = cond (is_taken taken a) 1 0 + taken_among taken (a + 1) n
 
+-- a number before all of them is none of them
 none_past : (t a n : ℕ) → t < a → taken_among (t ∷ []) a n ≡ 0
 none_past t a zero before = refl
 none_past t a (suc n) before =
@@ -48,10 +49,12 @@ more_taken t taken a (suc n) =
     let here = count_or (eqb t a) (is_taken taken a) in
     omega arith
 
+-- where nothing is taken
 none_taken : (a n : ℕ) → taken_among [] a n ≡ 0
 none_taken a zero = refl
 none_taken a (suc n) = omega (arith, none_taken (a + 1) n)
 
+-- no more of them are taken than are taken at all
 taken_at_most : (taken : List ℕ) (a n : ℕ) → taken_among taken a n ≤ length taken
 taken_at_most [] a n = omega (arith, none_taken a n)
 taken_at_most (t ∷ taken) a n = omega (arith, more_taken t taken a n, one_at_most t a n, taken_at_most taken a n)
@@ -80,6 +83,7 @@ slot_is_free taken few = ⊎_elim
 abbrev held_in : List Placed → Entry → Option ℕ
 held_in ps e = option_map (λ p. p.slot) (find (λ p. is_same_entry p.entry e) ps)
 
+-- equal entries are of one component
 same_component : (e f : Entry) → is_same_entry e f ≡ true → e.component ≡ f.component
 same_component e f same = eqb-true e.component f.component (and_parts _ _ (and_parts _ _ (and_parts _ _ same).0).0).0
 
@@ -109,6 +113,7 @@ held_once (p ∷ ps) e f s apart held_e held_f = at (is_same_entry p.entry e) (i
   where
     only : (g : Entry) → p.slot ≡ s → held_in ps g ≡ Some s → ⊥
     only g is held = both_ways (is_taken (map (λ p. p.slot) ps) s) (subst (λ n. is_taken (map (λ p. p.slot) ps) n ≡ false) is apart.0) (held_taken ps g s held)
+
     at : (b c : Bool) → is_same_entry p.entry e ≡ b → is_same_entry p.entry f ≡ c → option_map (λ p. p.slot) (cond b (Some p) (find (λ p. is_same_entry p.entry e) ps)) ≡ Some s
         → option_map (λ p. p.slot) (cond c (Some p) (find (λ p. is_same_entry p.entry f) ps)) ≡ Some s → (held_in ps e ≡ Some s → held_in ps f ≡ Some s → e.component ≡ f.component) → e.component ≡ f.component
     at true true is_e is_f here_e here_f rest = sym (same_component p.entry e is_e) ∙ same_component p.entry f is_f
@@ -120,11 +125,16 @@ held_once (p ∷ ps) e f s apart held_e held_f = at (is_same_entry p.entry e) (i
 
 -- what the entries from here on are placed over: a stored release, taken slots that are its own and others, and room
 record Room (m : StoredRelease) (taken : List ℕ) (es : List Entry) : Type 0 where
+  -- the slots of its own are apart
   apart : AreDistinct (map (λ p. p.slot) m.placed)
+  -- and below 32
   small : AllByRecursion (λ p. p.slot < 32) m.placed
+  -- they are taken
   own : (s : ℕ) → is_taken (map (λ p. p.slot) m.placed) s ≡ true → is_taken taken s ≡ true
+  -- there is room for the entries
   room : length taken + length es ≤ 32
 
+-- one entry further on
 room_left : (m : StoredRelease) (taken : List ℕ) (e : Entry) (es : List Entry) (s : ℕ) → Room m taken (e ∷ es) → Room m (s ∷ taken) es
 room_left m taken e es s room = record {
   apart = room.apart;
@@ -133,6 +143,7 @@ room_left m taken e es s room = record {
   room = (let h : length taken + length (e ∷ es) ≤ 32 = room.room in omega arith);
 }
 
+-- a slot is free for this entry
 free_here : (m : StoredRelease) (taken : List ℕ) (e : Entry) (es : List Entry) → Room m taken (e ∷ es) → (least_free taken < 32) × (is_taken taken (least_free taken) ≡ false)
 free_here m taken e es room = slot_is_free taken (let h : length taken + length (e ∷ es) ≤ 32 = room.room in omega arith)
 
@@ -147,26 +158,28 @@ later_apart : (m : StoredRelease) (e : Entry) (s : ℕ) (taken : List ℕ) (es :
 later_apart m e s taken [] room given others kind = refl
 later_apart m e s taken (f ∷ es) room given others kind =
     or_from _ _ (head (held_slot m f) refl)
-      (later_apart m e s (place_entry (held_slot m f) taken ∷ taken) es (room_left m taken f es _ room) (or_right (eqb (place_entry (held_slot m f) taken) s) (is_taken taken s) given) (or_parts _ _ others).1 kind)
+    (later_apart m e s (place_entry (held_slot m f) taken ∷ taken) es (room_left m taken f es _ room) (or_right (eqb (place_entry (held_slot m f) taken) s) (is_taken taken s) given) (or_parts _ _ others).1 kind)
   where
     head : (o : Option ℕ) → held_slot m f ≡ o → eqb (place_entry o taken) s ≡ false
     head None is = ne_eqb (least_free taken) s (λ same. both_ways (is_taken taken s) (subst (λ n. is_taken taken n ≡ false) same (free_here m taken f es room).1) given)
     head (Some t) is = ne_eqb t s (λ same. ⊎_elim
-      (λ held. both_ways (eqb f.component e.component) (or_parts _ _ others).0 (eq-eqb f.component e.component (held_once m.placed f e s room.apart (is ∙ ap Some same) held)))
-      (λ unused. both_ways (is_taken (map (λ p. p.slot) m.placed) s) unused (held_taken m.placed f s (is ∙ ap Some same)))
-      kind)
+        (λ held. both_ways (eqb f.component e.component) (or_parts _ _ others).0 (eq-eqb f.component e.component (held_once m.placed f e s room.apart (is ∙ ap Some same) held)))
+        (λ unused. both_ways (is_taken (map (λ p. p.slot) m.placed) s) unused (held_taken m.placed f s (is ∙ ap Some same)))
+        kind)
 
 -- the slots of the entries, no two the same
 placed_apart : (m : StoredRelease) (taken : List ℕ) (es : List Entry) → Room m taken es → AreDistinct (map (λ f. f.component) es) → AreDistinct (map (λ p. p.slot) (placed_from m taken es))
 placed_apart m taken [] room others = tt
-placed_apart m taken (e ∷ es) room others =
-    (later_apart m e (place_entry (held_slot m e) taken) (place_entry (held_slot m e) taken ∷ taken) es (room_left m taken e es _ room)
-       (or_left (eqb (place_entry (held_slot m e) taken) (place_entry (held_slot m e) taken)) _ (eq-eqb (place_entry (held_slot m e) taken) (place_entry (held_slot m e) taken) refl)) others.0 (kind (held_slot m e) refl),
-     placed_apart m (place_entry (held_slot m e) taken ∷ taken) es (room_left m taken e es _ room) others.1)
+placed_apart m taken (e ∷ es) room others = (
+  later_apart m e (place_entry (held_slot m e) taken) (place_entry (held_slot m e) taken ∷ taken) es (room_left m taken e es _ room)
+      (or_left (eqb (place_entry (held_slot m e) taken) (place_entry (held_slot m e) taken)) _ (eq-eqb (place_entry (held_slot m e) taken) (place_entry (held_slot m e) taken) refl)) others.0 (kind (held_slot m e) refl),
+  placed_apart m (place_entry (held_slot m e) taken ∷ taken) es (room_left m taken e es _ room) others.1,
+)
   where
     unused : (s : ℕ) → is_taken taken s ≡ false → (b : Bool) → is_taken (map (λ p. p.slot) m.placed) s ≡ b → b ≡ false
     unused s free true is = absurd (both_ways (is_taken taken s) free (room.own s is))
     unused s free false is = refl
+
     kind : (o : Option ℕ) → held_slot m e ≡ o → (held_slot m e ≡ Some (place_entry o taken)) ⊎ IsUnused m (place_entry o taken)
     kind (Some s) is = inl is
     kind None is = inr (unused (least_free taken) (free_here m taken e es room).1 (is_taken (map (λ p. p.slot) m.placed) (least_free taken)) refl)
@@ -176,18 +189,22 @@ placed_entries : (m : StoredRelease) (taken : List ℕ) (es : List Entry) → ma
 placed_entries m taken [] = refl
 placed_entries m taken (e ∷ es) = ap (λ (fs : List Entry). e ∷ fs) (placed_entries m (place_entry (held_slot m e) taken ∷ taken) es)
 
+-- as many as there were
 placed_count : (m : StoredRelease) (taken : List ℕ) (es : List Entry) → length (placed_from m taken es) ≡ length es
 placed_count m taken [] = refl
 placed_count m taken (e ∷ es) = ap suc (placed_count m (place_entry (held_slot m e) taken ∷ taken) es)
 
+-- of the same components
 placed_components : (m : StoredRelease) (taken : List ℕ) (es : List Entry) → map (λ p. p.entry.component) (placed_from m taken es) ≡ map (λ e. e.component) es
 placed_components m taken [] = refl
 placed_components m taken (e ∷ es) = ap (λ (fs : List ℕ). e.component ∷ fs) (placed_components m (place_entry (held_slot m e) taken ∷ taken) es)
 
+-- each is an entry of the grammar
 placed_good : (m : StoredRelease) (taken : List ℕ) (es : List Entry) → AllByRecursion IsManifestEntry es → AllByRecursion (λ p. IsManifestEntry p.entry) (placed_from m taken es)
 placed_good m taken [] good = tt
 placed_good m taken (e ∷ es) good = (good.0, placed_good m (place_entry (held_slot m e) taken ∷ taken) es good.1)
 
+-- each slot is below 32
 placed_low : (m : StoredRelease) (taken : List ℕ) (es : List Entry) → Room m taken es → AllByRecursion (λ p. p.slot < 32) (placed_from m taken es)
 placed_low m taken [] room = tt
 placed_low m taken (e ∷ es) room = (place_small m taken e es room (held_slot m e) refl, placed_low m (place_entry (held_slot m e) taken ∷ taken) es (room_left m taken e es _ room))
@@ -201,6 +218,7 @@ starts m r stored release = record {
   room = omega (arith, length-map m.placed (λ p. p.slot), stored.few, release.few);
 }
 
+-- a held entry keeps its slot
 placed_held : (m : StoredRelease) (taken : List ℕ) (es : List Entry) (k : ℕ) (p : Placed) (s : ℕ) → slice_get (placed_from m taken es) k ≡ Some p → held_slot m p.entry ≡ Some s → p.slot ≡ s
 placed_held m taken [] k p s at held = absurd cc
 placed_held m taken (e ∷ es) zero p s at held =
@@ -210,6 +228,7 @@ placed_held m taken (e ∷ es) zero p s at held =
     sym slot ∙ ap (λ (o : Option ℕ). place_entry o taken) (ap (held_slot m) entry ∙ held)
 placed_held m taken (e ∷ es) (suc k) p s at held = placed_held m (place_entry (held_slot m e) taken ∷ taken) es k p s at held
 
+-- no other gets one of the current release's
 placed_new : (m : StoredRelease) (taken : List ℕ) (es : List Entry) (k : ℕ) (p : Placed) → Room m taken es → slice_get (placed_from m taken es) k ≡ Some p → held_slot m p.entry ≡ None → IsUnused m p.slot
 placed_new m taken [] k p room at new = absurd cc
 placed_new m taken (e ∷ es) zero p room at new =

@@ -2,7 +2,9 @@ pub mod Steps
 pub mod Programs
 pub mod Runs
 pub mod Slots
-pub mod Stored
+pub mod Motes
 pub mod Formatted
 pub mod Sets
 pub mod Stands
+pub mod Words
+pub mod Invariant

@@ -1,10 +1,13 @@
 -- What the mote machine keeps, step by step and over a session.
-use Rattle.std.specs.Prelude.{◌≡◌, ◌≢◌, ◌⊎◌, ℕ, ◌<◌, Bool, true, false, List, [], ◌∷◌, length, Option, Some, None}
+use Rattle.std.specs.Prelude.{◌≡◌, ◌≢◌, ℕ, ◌<◌, Bool, true, false, List, [], ◌∷◌, length, Option, Some, None, ◌++◌}
+use Rattle.std.specs.List.{AllByRecursion}
 use Rattle.component_package.specs.declared.answer.Answer.{Answer}
 use Rattle.component_package.specs.declared.answer.Answer.TheVariants as answers
 use Rattle.component_package.specs.Manifest.{StoredRelease}
+use Rattle.component_package.specs.Link.{link_cause}
+use Rattle.component_package.specs.Store.{set_fault, components_of}
 use Rattle.component_package.specs.Frames.{Frame}
-use Rattle.component_package.specs.Machine.{Mote, Chosen, step, commits, mote_from, commits_from, boot_frame, session_mote, session_commits, session_answers}
+use Rattle.component_package.specs.Machine.{Mote, Chosen, step, boot_frame, session_mote, session_commits, session_answers, mote_from, answers_from, commits_from}
 
 -- ---- refusals
 
@@ -60,10 +63,32 @@ pub record OnlyItsAnswerChanges : Type 0 where
   -- the release that boots, and that no commit stands
   pub current : (s : Mote) (f : Frame) → ((n : ℕ) → (step s f).answer ≢ answers.Committed n) → (step s f).mote.current ≡ s.current
   pub standing : (s : Mote) (f : Frame) → s.standing ≡ false → ((n : ℕ) → (step s f).answer ≢ answers.Committed n) → (step s f).mote.standing ≡ false
+  -- what comes in
+  pub incoming : (s : Mote) (f : Frame) → ((n h : ℕ) → (step s f).answer ≢ answers.ManifestIs n h) → ((n : ℕ) → (step s f).answer ≢ answers.Committed n)
+      → (step s f).answer ≢ answers.Aborted → (step s f).mote.incoming ≡ s.incoming
   -- the slots
   pub store : (s : Mote) (f : Frame) → ((k page : ℕ) → (step s f).answer ≢ answers.Piece k page) → (step s f).mote.store ≡ s.store
   -- that a commit stands, until a boot
   pub until_boot : (s : Mote) (f : Frame) → s.standing ≡ true → ((n : ℕ) → (step s f).answer ≢ answers.Booted n) → (step s f).mote ≡ s
+
+-- the answers that name the release that boots next
+abbrev pub is_of_current : Answer → Bool
+is_of_current (answers.Committed n) = true
+is_of_current (answers.Booted n) = true
+is_of_current a = false
+
+-- `committed` and `booted` name the current release, which stands to be installed, or was.
+pub record AnswersTellTheCurrent : Type 0 where
+  pub committed : (s : Mote) (f : Frame) (n : ℕ) → (step s f).answer ≡ answers.Committed n → ((step s f).mote.current.number ≡ n) × ((step s f).mote.standing ≡ true)
+  pub booted : (s : Mote) (f : Frame) (n : ℕ) → (step s f).answer ≡ answers.Booted n → ((step s f).mote.current.number ≡ n) × ((step s f).mote.standing ≡ false)
+
+-- ---- runs one after another
+
+-- A run over frames and then more frames is the two runs, one behind the other.
+pub record RunsJoin : Type 0 where
+  pub mote : (s : Mote) (fs gs : List Frame) → mote_from s (fs ++ gs) ≡ mote_from (mote_from s fs) gs
+  pub answers : (s : Mote) (fs gs : List Frame) → answers_from s (fs ++ gs) ≡ answers_from s fs ++ answers_from (mote_from s fs) gs
+  pub commits : (s : Mote) (fs gs : List Frame) → commits_from s (fs ++ gs) ≡ commits_from s fs ++ commits_from (mote_from s fs) gs
 
 -- ---- releases rise
 
@@ -87,3 +112,22 @@ pub record CommitsRise : Type 0 where
   pub step : (s : Mote) (f : Frame) → IsRising s → IsRising (step s f).mote
   pub run : (s : Mote) (fs : List Frame) → IsRising s → IsRising (session_mote s fs)
   pub commits : (s : Mote) (fs : List Frame) → IsRising s → ReleasesRise s.current.number (session_commits s fs)
+
+-- ---- what is linked is whole
+
+-- the release that comes in is whole in the slots, and nothing refuses its set
+pub record IsWhole (s : Mote) : Type 0 where
+  pub release : StoredRelease
+  pub incoming : s.incoming ≡ Some release
+  pub faultless : set_fault s.store release ≡ None
+  pub free : link_cause (components_of s.store release) ≡ None
+
+-- a mote is linked only where that holds
+abbrev pub IsLinkedWhole : Mote → Type 0
+IsLinkedWhole s = s.linked ≡ true → IsWhole s
+
+-- Each step keeps a mote so, and thus nothing refuses a set that a session commits. A piece that left a mote linked would commit what was never linked.
+pub record CommitsAreWhole : Type 0 where
+  pub step : (s : Mote) (f : Frame) → IsLinkedWhole s → IsLinkedWhole (step s f).mote
+  pub run : (s : Mote) (fs : List Frame) → IsLinkedWhole s → IsLinkedWhole (session_mote s fs)
+  pub commits : (s : Mote) (fs : List Frame) → IsLinkedWhole s → AllByRecursion (λ c. link_cause c.set ≡ None) (session_commits s fs)

@@ -21,6 +21,8 @@ pub record SetsAreFaultless : Type 0 where
 -- A slot that a release doesn't use may become anything: its set stays, and so do its components.
 pub record OtherSetsStay : Type 0 where
   pub set : (store : List (List ℕ)) (s : ℕ) (bytes : List ℕ) (m : StoredRelease) → IsUnused m s → HasSet store m → HasSet (slice_set store s bytes) m
-  pub components : (store : List (List ℕ)) (s : ℕ) (bytes : List ℕ) (m : StoredRelease) → IsUnused m s → components_of (slice_set store s bytes) m ≡ components_of store m
+  pub components : (store : List (List ℕ)) (s : ℕ) (bytes : List ℕ) (m : StoredRelease) → IsUnused m s
+      → components_of (slice_set store s bytes) m ≡ components_of store m
   -- so a piece of an entry that isn't held leaves the current release's set
-  pub piece : (current side : List ℕ) (m n : StoredRelease) (k : ℕ) (p : Placed) → IsNext current side → Stores current m → Stores side n → slice_get n.placed k ≡ Some p → held_slot m p.entry ≡ None → IsUnused m p.slot
+  pub piece : (current side : List ℕ) (m n : StoredRelease) (k : ℕ) (p : Placed) → IsNext current side → Stores current m → Stores side n
+      → slice_get n.placed k ≡ Some p → held_slot m p.entry ≡ None → IsUnused m p.slot

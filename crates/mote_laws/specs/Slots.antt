@@ -14,5 +14,7 @@ pub record SlotsAreFound : Type 0 where
   pub released : (m : StoredRelease) (r : Release) → released (slots_for m r) ≡ r
   -- 16 entries over 16 find 16 slots below 32, no two the same
   pub stored : (m : StoredRelease) (r : Release) → IsStored m → IsRelease r → IsStored (slots_for m r)
-  pub held : (m : StoredRelease) (r : Release) (k : ℕ) (p : Placed) (s : ℕ) → slice_get (slots_for m r).placed k ≡ Some p → held_slot m p.entry ≡ Some s → p.slot ≡ s
-  pub new : (m : StoredRelease) (r : Release) (k : ℕ) (p : Placed) → IsStored m → IsRelease r → slice_get (slots_for m r).placed k ≡ Some p → held_slot m p.entry ≡ None → IsUnused m p.slot
+  pub held : (m : StoredRelease) (r : Release) (k : ℕ) (p : Placed) (s : ℕ) → slice_get (slots_for m r).placed k ≡ Some p
+      → held_slot m p.entry ≡ Some s → p.slot ≡ s
+  pub new : (m : StoredRelease) (r : Release) (k : ℕ) (p : Placed) → IsStored m → IsRelease r → slice_get (slots_for m r).placed k ≡ Some p
+      → held_slot m p.entry ≡ None → IsUnused m p.slot

@@ -48,7 +48,8 @@ pub record ClosingKeeps : Type 0 where
   pub image : (p : Parts) (b : Bool) → IsSound p → p.gates img ≡ true → Keeps p (with_gate img b p)
   pub relocs : (p : Parts) (b : Bool) → IsSound p → p.gates rel ≡ true → p.gates img ≡ false → Keeps p (with_gate rel b p)
   pub symbols : (p : Parts) (b : Bool) → IsSound p → p.gates sym ≡ true → p.gates rel ≡ false → p.gates img ≡ false → Keeps p (with_gate sym b p)
-  pub manifest : (p : Parts) (b : Bool) → IsSound p → p.gates man ≡ true → p.gates sym ≡ false → p.gates rel ≡ false → p.gates img ≡ false → Keeps p (with_gate man b p)
+  pub manifest : (p : Parts) (b : Bool) → IsSound p → p.gates man ≡ true → p.gates sym ≡ false → p.gates rel ≡ false → p.gates img ≡ false
+      → Keeps p (with_gate man b p)
 
 -- ---- pages that are written
 
@@ -65,21 +66,22 @@ pub record WritingKeeps : Type 0 where
 -- A slot changes, to any bytes, only where the chosen release has no package in it and the symbols that were merged from it don't count.
 -- A held component's slot is the chosen release's too: to write it would spoil the set that boots.
 abbrev pub SlotWritingKeeps : Type 0
-SlotWritingKeeps = (p : Parts) (s : ℕ) (bytes : List ℕ) → IsSound p → p.gates sym ≡ false → ((m : StoredRelease) → Stores (chosen_side p) m → IsUnused m s)
-    → Keeps p (record p { slots = slice_set p.slots s bytes })
+SlotWritingKeeps = (p : Parts) (s : ℕ) (bytes : List ℕ) → IsSound p → p.gates sym ≡ false
+    → ((m : StoredRelease) → Stores (chosen_side p) m → IsUnused m s) → Keeps p (record p { slots = slice_set p.slots s bytes })
 
 -- ---- gates that are opened
 
 -- A gate is opened where what it vouches for holds, so that it may stand either way meanwhile. Opened before, it would vouch for what isn't
 -- there yet.
 pub record OpeningKeeps : Type 0 where
-  pub manifest : (p : Parts) (b : Bool) → IsSound p → is_pending p ≡ false → p.gates man ≡ false → IsNext (chosen_side p) (other_side p) → Keeps p (with_gate man b p)
+  pub manifest : (p : Parts) (b : Bool) → IsSound p → is_pending p ≡ false → p.gates man ≡ false → IsNext (chosen_side p) (other_side p)
+      → Keeps p (with_gate man b p)
   pub symbols : (p : Parts) (b : Bool) → IsSound p → is_pending p ≡ false → p.gates sym ≡ false → p.gates man ≡ true → HoldsSet p.slots (other_side p)
       → HasLateCause p.slots (other_side p) → HasTable p.slots (other_side p) p.symbols → Keeps p (with_gate sym b p)
   pub relocs : (p : Parts) (b : Bool) → IsSound p → is_pending p ≡ false → p.gates rel ≡ false → p.gates sym ≡ true → HasNoCause p.slots (other_side p)
       → HasList p.slots (other_side p) p.relocs → Keeps p (with_gate rel b p)
-  pub image : (p : Parts) (b : Bool) → IsSound p → is_pending p ≡ false → p.gates img ≡ false → p.gates rel ≡ true → HasImage p.slots (other_side p) p.staged
-      → Keeps p (with_gate img b p)
+  pub image : (p : Parts) (b : Bool) → IsSound p → is_pending p ≡ false → p.gates img ≡ false → p.gates rel ≡ true
+      → HasImage p.slots (other_side p) p.staged → Keeps p (with_gate img b p)
 
 -- ---- a commit, and its end
 
@@ -100,5 +102,6 @@ SelectingKeeps = (p : Parts) (b : Bool) → IsSound p → is_pending p ≡ true 
 -- The Go gate is closed last: program flash is the staged image, Sel stands at the chosen side, and nothing incoming counts. Closed before Sel is
 -- brought over, it would choose the former side while program flash is the new one's image.
 abbrev pub FinishingKeeps : Type 0
-FinishingKeeps = (p : Parts) (b : Bool) → IsSound p → is_pending p ≡ true → p.gates sel ≡ is_on_b p → p.gates img ≡ false → p.gates rel ≡ false → p.gates sym ≡ false → p.gates man ≡ false
+FinishingKeeps = (p : Parts) (b : Bool) → IsSound p → is_pending p ≡ true → p.gates sel ≡ is_on_b p → p.gates img ≡ false → p.gates rel ≡ false
+    → p.gates sym ≡ false → p.gates man ≡ false
     → p.prog ≡ p.staged → Keeps p (with_gate (chosen_go p) b p)

@@ -5,11 +5,14 @@
 
 ghost use Rattle.mote_laws.specs.Steps.{ClosingKeeps, WritingKeeps, SlotWritingKeeps, OpeningKeeps, CommitIsWhole, SelectingKeeps, FinishingKeeps};
 ghost use Rattle.mote_laws.specs.Programs.{EachPageIsInOnePart, JoinedPageIsPut};
-ghost use Rattle.mote_laws.specs.Runs.{RefusalsChangeNothing, MachineIsTotal, OnlyItsAnswerChanges, CommitsRise};
+ghost use Rattle.mote_laws.specs.Runs.{RefusalsChangeNothing, MachineIsTotal, OnlyItsAnswerChanges, CommitsRise, AnswersTellTheCurrent, RunsJoin, CommitsAreWhole};
 ghost use Rattle.mote_laws.specs.Slots.{SlotIsFree, SlotsAreFound};
-ghost use Rattle.mote_laws.specs.Stored.{BytesAreOneRelease, PartsStandForOne};
+ghost use Rattle.mote_laws.specs.Motes.{PartsStandForOne};
 ghost use Rattle.mote_laws.specs.Formatted.{FormattedIsSound};
 ghost use Rattle.mote_laws.specs.Sets.{SetsAreFaultless, OtherSetsStay};
+ghost use Rattle.mote_laws.specs.Stands.{ChoiceIsTheMotes, OnlyCommitsChoose, RestingStepsStand, CutCommitIsWhole, StandingStepsStand};
+ghost use Rattle.mote_laws.specs.Words.{WordsSayWhatTheyMean, ImageIsTheChosens};
+ghost use Rattle.mote_laws.specs.Invariant.{MotesStayMotes, SoundIsAMote};
 
 /// Closing Img, Rel, Sym and Man, in this order, keeps a mote sound and what it chooses.
 pub fn closing_keeps()
@@ -66,7 +69,7 @@ pub fn machine_is_total()
     ensures { MachineIsTotal }
 {}
 
-/// The release that boots changes only at `committed`, the slots only at `piece`, and a commit stands until `booted`.
+/// The release that boots changes only at `committed`, what comes in only at `manifest`, `committed` and `aborted`, the slots only at `piece`, and a commit stands until `booted`.
 pub fn only_its_answer_changes()
     ensures { OnlyItsAnswerChanges }
 {}
@@ -74,6 +77,21 @@ pub fn only_its_answer_changes()
 /// The releases of a session's commits rise strictly from the one at entry.
 pub fn commits_rise()
     ensures { CommitsRise }
+{}
+
+/// `committed` and `booted` name the current release.
+pub fn answers_tell_the_current()
+    ensures { AnswersTellTheCurrent }
+{}
+
+/// A run over frames and then more frames is the two runs, one behind the other.
+pub fn runs_join()
+    ensures { RunsJoin }
+{}
+
+/// A mote is linked only where its incoming set is whole, and nothing refuses a set that a session commits.
+pub fn commits_are_whole()
+    ensures { CommitsAreWhole }
 {}
 
 /// A slot is free where fewer than 32 are taken.
@@ -84,11 +102,6 @@ pub fn slot_is_free()
 /// Each entry of a release over a stored one has a slot of its own: the held ones theirs, and the others one that the current release doesn't use.
 pub fn slots_are_found()
     ensures { SlotsAreFound }
-{}
-
-/// The bytes of a manifest spell one release, and those of a side store one.
-pub fn bytes_are_one_release()
-    ensures { BytesAreOneRelease }
 {}
 
 /// Sound parts stand for exactly one mote of the machine, whose incoming release is above the current one.
@@ -109,4 +122,49 @@ pub fn sets_are_faultless()
 /// A slot that a release doesn't use may become anything: its set stays. An entry that isn't held has such a slot.
 pub fn other_sets_stay()
     ensures { OtherSetsStay }
+{}
+
+/// Parts choose what their mote boots, and nothing else.
+pub fn choice_is_the_motes()
+    ensures { ChoiceIsTheMotes }
+{}
+
+/// What a sound mote boots changes where a commit comes to stand, and nowhere else.
+pub fn only_commits_choose()
+    ensures { OnlyCommitsChoose }
+{}
+
+/// The mote that the parts stand for after each step of the journal where no commit stands.
+pub fn resting_steps_stand()
+    ensures { RestingStepsStand }
+{}
+
+/// A cut in a commit leaves parts that stand for the mote after it or before it.
+pub fn cut_commit_is_whole()
+    ensures { CutCommitIsWhole }
+{}
+
+/// Nothing of a boot's steps is seen until the Go gate is closed, and then no commit stands.
+pub fn standing_steps_stand()
+    ensures { StandingStepsStand }
+{}
+
+/// Where a side's release is known, each word of soundness says what it says of that release.
+pub fn words_say_what_they_mean()
+    ensures { WordsSayWhatTheyMean }
+{}
+
+/// The chosen set's image is in program flash where no commit stands, and staged where one does.
+pub fn image_is_the_chosens()
+    ensures { ImageIsTheChosens }
+{}
+
+/// Whatever frames of bytes come, the slots hold the set that boots, nothing refuses it, and it changes where a commit comes to stand alone.
+pub fn motes_stay_motes()
+    ensures { MotesStayMotes }
+{}
+
+/// What sound parts stand for is such a mote, where their slots hold bytes.
+pub fn sound_is_a_mote()
+    ensures { SoundIsAMote }
 {}

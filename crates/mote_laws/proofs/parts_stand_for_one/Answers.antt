@@ -1,4 +1,4 @@
-use Rattle.mote_laws.proofs.Stored.{parts_stand_for_one}
+use Rattle.mote_laws.proofs.Motes.{parts_stand_for_one}
 use Rattle.mote_laws.proofs.parts_stand_for_one.Goals as goal
 
 pub returns : goal.returns
