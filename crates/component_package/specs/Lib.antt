@@ -1,6 +1,7 @@
 pub mod Numbers
 pub mod Component
 pub mod Reading
+pub mod View
 pub mod Grammar
 pub mod Layout
 pub mod Link

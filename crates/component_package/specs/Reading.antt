@@ -152,10 +152,14 @@ is_aligned r = not (is_instruction (shape_of r.kind)) || is_even r.offset
 abbrev pub has_place : Header → List ℕ → Reloc → Bool
 has_place h raw r = has_place_byte raw && is_inside h r && is_aligned r
 
+-- the field does not begin before the former one's end
+abbrev pub begins_after : Reloc → Reloc → Bool
+begins_after former r = nat_le (reloc_end former) r.offset
+
 -- code comes before data, and in one part no field begins before the former one's end
 abbrev pub is_behind : Option Reloc → Reloc → Bool
 is_behind None r = true
-is_behind (Some former) r = if former.in_init then r.in_init && nat_le (reloc_end former) r.offset else r.in_init || nat_le (reloc_end former) r.offset
+is_behind (Some former) r = if former.in_init then r.in_init && begins_after former r else r.in_init || begins_after former r
 
 -- the own bases and the linker's symbols are 0 to 10, symbols are 16 and above, and only these may be weak
 abbrev pub has_target : Reloc → Bool

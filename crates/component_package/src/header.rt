@@ -60,14 +60,14 @@ fn has_even_lengths(h: &Header) -> bool
     h.code % 2 == 0 && h.init % 2 == 0 && h.bss % 2 == 0
 }
 
-fn has_its_length(h: &Header, count: u32) -> bool
+fn has_its_length(h: &Header, count: usize) -> bool
     ensures { result ≡ has_its_length h.now count }
 {
-    count == h.total() && count <= 9984
+    count == h.total() as usize && count <= 9984
 }
 
 // What is wrong with the header of a package of so many bytes.
-pub(crate) fn header_fault_in(bytes: &[u8], count: u32) -> Option<PackageFault>
+pub(crate) fn header_fault_in(bytes: &[u8], count: usize) -> Option<PackageFault>
     requires { 32 ≤ count → 32 ≤ length bytes.now }
     ensures { result ≡ header_fault bytes.now count }
 {
@@ -95,7 +95,7 @@ pub fn read_header(raw: &[u8; 32], count: u32) -> Result<Header, PackageFault>
     ensures fault { result_err result ≡ header_fault raw.now count }
     ensures header { IfOk result (λ h. h ≡ header_of raw.now) }
 {
-    if let Some(fault) = header_fault_in(raw, count) {
+    if let Some(fault) = header_fault_in(raw, count as usize) {
         return Err(fault);
     }
     Ok(header_in(raw))

@@ -3,24 +3,49 @@
 //! The definitions in `specs/` are those that every crate above cites: the grammar of packages, the image of a set of components, the pages and areas that it is made in, frames and answers.
 #![tactic(auto)]
 
-ghost use Rattle.component_package.specs.Laws.{FramesAreOne};
+ghost use Rattle.component_package.specs.Laws.{FramesAreOne, FaultlessBytesSpell, SpellingIsOne, StepsFindTheFault};
 
 mod answer;
 pub mod areas;
+mod check;
 mod fault;
 mod header;
 mod list;
 mod manifest;
 mod part;
+mod read;
+mod write;
 
 pub use answer::Answer;
+pub use check::{check_export, check_reloc, field_span};
 pub use fault::PackageFault;
 pub use header::read_header;
-pub use list::{Bytes, NoMemory, Text};
+pub use list::{Bytes, Exports, NoMemory, Relocs, Text};
 pub use manifest::{Entry, Manifest, ManifestFault, SlotManifest};
-pub use part::{Export, Header, Place, Reloc, Site};
+pub use part::{Export, Header, Package, Place, Reloc, Site};
+pub use read::{PackageView, read_package};
+pub use write::write_package;
 
 /// The bytes of a line are one list of frames and one rest. It does nothing: its contract is the law.
 pub fn frames_are_one()
     ensures { FramesAreOne }
 {}
+
+/// Bytes have no fault exactly where they spell a component, which is the one that they say. It does nothing: its contract is the law.
+pub fn faultless_bytes_spell()
+    ensures { FaultlessBytesSpell }
+{}
+
+/// A component has one spelling, and bytes spell one component at most. It does nothing: its contract is the law.
+pub fn spelling_is_one()
+    ensures { SpellingIsOne }
+{}
+
+/// A package that is read piece by piece, by [`read_header`], [`check_export`] and [`check_reloc`], has the fault that it has as a whole.
+/// It does nothing: its contract is the law.
+pub fn steps_find_the_fault()
+    ensures { StepsFindTheFault }
+{}
+
+#[cfg(test)]
+mod tests;

@@ -2,6 +2,7 @@
 
 ghost use Rattle.std.specs.Prelude.{◌≡◌, ℕ, List};
 
+use crate::part::{Export, Reloc};
 use std::alloc::AllocError;
 use std::marker::Model;
 
@@ -68,5 +69,67 @@ impl Text {
         ensures { result.now ≡ self.now }
     {
         self.content.as_str()
+    }
+}
+
+/// Exports. Contracts see the list of them.
+#[derive(Debug, Drop)]
+pub struct Exports {
+    content: Vec<Export>,
+}
+
+impl Model for Exports {
+    ghost use Rattle.std.specs.Prelude.{List};
+    ghost use Rattle.component_package.specs.declared.part.Export.{Export};
+
+    ghost Value = { List Export };
+
+    ghost view = { λ x. x.content.items };
+}
+
+impl Exports {
+    /// The exports of `v`.
+    pub fn of(v: Vec<Export>) -> Exports
+        ensures { result ≡ v.items }
+    {
+        Exports { content: v }
+    }
+
+    /// The exports, borrowed.
+    pub fn as_slice(&self) -> &[Export]
+        ensures { result.now ≡ self.now }
+    {
+        self.content.as_slice()
+    }
+}
+
+/// Relocations. Contracts see the list of them.
+#[derive(Debug, Drop)]
+pub struct Relocs {
+    content: Vec<Reloc>,
+}
+
+impl Model for Relocs {
+    ghost use Rattle.std.specs.Prelude.{List};
+    ghost use Rattle.component_package.specs.declared.part.Reloc.{Reloc};
+
+    ghost Value = { List Reloc };
+
+    ghost view = { λ x. x.content.items };
+}
+
+impl Relocs {
+    /// The relocations of `v`.
+    pub fn of(v: Vec<Reloc>) -> Relocs
+        ensures { result ≡ v.items }
+    {
+        Relocs { content: v }
+    }
+
+    /// The relocations, borrowed.
+    pub fn as_slice(&self) -> &[Reloc]
+        ensures { result.now ≡ self.now }
+    {
+        self.content.as_slice()
     }
 }

@@ -1,0 +1,277 @@
+//! Worked packages, every fault at its first and last place, and the greatest package.
+
+ghost use Rattle.std.specs.Prelude.{◌≡◌, IfOk};
+ghost use Rattle.component_package.specs.Grammar.{IsComponent};
+
+use super::*;
+use avr_reloc::RelocType;
+use std::alloc::{AllocError, Global};
+use std::test::Fail;
+
+// A jump to itself behind a call of symbol 16.
+const CALLER: [u8; 46] = [
+    0x46, 0x43, 0x50, 0x31, 1, 0, 1, 0, 6, 0, 0, 0, 0, 0, 0, 0, 1, 0, 0, 0, 0, 0, 0, 0, 0, 0, 0, 0,
+    0, 0, 0, 0, 0x0E, 0x94, 0, 0, 0xFF, 0xCF, 0, 0, 0, 0x12, 0x10, 0, 0, 0,
+];
+
+// A return that is symbol 16.
+const CALLEE: [u8; 40] = [
+    0x46, 0x43, 0x50, 0x31, 2, 0, 1, 0, 2, 0, 0, 0, 0, 0, 1, 0, 0, 0, 0, 0, 0, 0, 0, 0, 0, 0, 0, 0,
+    0, 0, 0, 0, 0x08, 0x95, 0x10, 0, 0, 0, 0, 0,
+];
+
+// Code of 8 bytes at 32, data of 4 at 40, three exports at 44 and five relocations at 62.
+const SAMPLE: [u8; 102] = [
+    0x46, 0x43, 0x50, 0x31, 7, 0, 1, 0, 8, 0, 4, 0, 2, 0, 3, 0, 5, 0, 0, 0, 0, 0, 0, 0, 0, 0, 0, 0,
+    0, 0, 0, 0, // code: two load instructions and a call
+    0x80, 0xE0, 0x90, 0xE0, 0x0E, 0x94, 0, 0, // data: two addresses
+    0, 0, 0, 0, // exports: 16 in code, 17 at the end of data, 18 weak at the end of bss
+    16, 0, 0, 0, 0, 0, 17, 0, 1, 0, 4, 0, 18, 0, 0x82, 0, 2, 0,
+    // relocations: both halves of the own data's address, symbol 20, the own code, symbol 21 weakly
+    0, 0, 0, 6, 1, 0, 0, 0, 2, 0, 0, 7, 1, 0, 0, 0, 4, 0, 0, 18, 20, 0, 0, 0, 0, 0, 1, 4, 0, 0, 0,
+    0, 2, 0, 0x81, 4, 21, 0, 0xFE, 0xFF,
+];
+
+fn changed(alloc: Global, changes: &[(usize, u8)]) -> Result<Vec<u8>, AllocError> {
+    let mut bytes = SAMPLE.to_vec(alloc)?;
+    for (at, byte) in changes {
+        if let Some(x) = bytes.get_mut(*at) {
+            *x = *byte;
+        }
+    }
+    Ok(bytes)
+}
+
+// The component of CALLER.
+fn caller(alloc: Global) -> Result<Package, AllocError>
+    ensures { IfOk result IsComponent }
+{
+    let code = Vec::from_array(alloc, [0x0E, 0x94, 0, 0, 0xFF, 0xCF])?;
+    let call = Reloc {
+        offset: 0,
+        in_init: false,
+        weak: false,
+        kind: RelocType::Call,
+        target: 16,
+        addend: 0,
+    };
+    let relocs = Vec::from_array(alloc, [call])?;
+    Ok(Package {
+        component: 1,
+        version: 1,
+        code: Bytes::of(code),
+        init: Bytes::of(Vec::new(alloc)),
+        bss: 0,
+        exports: Exports::of(Vec::new(alloc)),
+        relocs: Relocs::of(relocs),
+    })
+}
+
+// The component of CALLEE.
+fn callee(alloc: Global) -> Result<Package, AllocError>
+    ensures { IfOk result IsComponent }
+{
+    let code = Vec::from_array(alloc, [0x08, 0x95])?;
+    let entry = Export {
+        symbol: 16,
+        place: Place::Code,
+        weak: false,
+        value: 0,
+    };
+    let exports = Vec::from_array(alloc, [entry])?;
+    Ok(Package {
+        component: 2,
+        version: 1,
+        code: Bytes::of(code),
+        init: Bytes::of(Vec::new(alloc)),
+        bss: 0,
+        exports: Exports::of(exports),
+        relocs: Relocs::of(Vec::new(alloc)),
+    })
+}
+
+#[test]
+fn worked_packages(rt: HostRuntime) -> Result<(), Fail> {
+    let view = read_package(&CALLER).ok().ok_or("a package")?;
+    let header = view.header();
+    assert_eq!(rt; [header.component, header.version, header.code], [1, 1, 6]);
+    assert_eq!(rt;
+        [header.init, header.bss, header.exports, header.relocs],
+        [0, 0, 0, 1]
+    );
+    assert_eq!(rt;
+        view.code_bytes(),
+        [0x0E, 0x94, 0, 0, 0xFF, 0xCF].as_slice()
+    );
+    assert_eq!(rt; view.init_bytes().len(), 0);
+    for i in 0..header.relocs {
+        let r = view.reloc(i);
+        assert_eq!(rt;
+            (r.offset, r.in_init, r.weak, r.kind),
+            (0, false, false, RelocType::Call)
+        );
+        assert_eq!(rt; (r.target, r.addend), (16, 0));
+    }
+    let view = read_package(&CALLEE).ok().ok_or("a package")?;
+    for i in 0..view.header().exports {
+        let e = view.export(i);
+        assert_eq!(rt;
+            (e.symbol, e.place, e.weak, e.value),
+            (16, Place::Code, false, 0)
+        );
+    }
+    let mut spoiled = CALLER;
+    spoiled[34] = 1;
+    assert_eq!(rt;
+        read_package(&spoiled).err(),
+        Some(PackageFault::FieldNotZero(0))
+    );
+    assert_eq!(rt;
+        read_package(&CALLER[..45]).err(),
+        Some(PackageFault::Length)
+    );
+    assert_eq!(rt;
+        read_package(&CALLER[..31]).err(),
+        Some(PackageFault::Short)
+    );
+    Ok(())
+}
+
+#[test]
+fn worked_packages_written(rt: HostRuntime) -> Result<(), Fail> {
+    let bytes = write_package(rt.alloc(), &caller(rt.alloc())?)?;
+    assert_eq!(rt; bytes.as_slice(), CALLER.as_slice());
+    let bytes = write_package(rt.alloc(), &callee(rt.alloc())?)?;
+    assert_eq!(rt; bytes.as_slice(), CALLEE.as_slice());
+    Ok(())
+}
+
+#[test]
+fn faults_in_order(rt: HostRuntime) -> Result<(), Fail> {
+    use PackageFault::*;
+    let rows: [(&[(usize, u8)], Option<PackageFault>); 42] = [
+        (&[], None),
+        // each fault, at its first and its last place
+        (&[(0, 0)], Some(Magic)),
+        (&[(3, 0x32)], Some(Magic)),
+        (&[(18, 1)], Some(Reserved)),
+        (&[(31, 0x80)], Some(Reserved)),
+        (&[(8, 9)], Some(Parity)),
+        (&[(12, 3)], Some(Parity)),
+        (&[(8, 10)], Some(Length)),
+        (&[(17, 1)], Some(Length)),
+        (&[(44, 15)], Some(ExportOrder(0))),
+        (&[(56, 17)], Some(ExportOrder(2))),
+        (&[(46, 4)], Some(ExportPlace(0))),
+        (&[(48, 9)], Some(ExportPlace(0))),
+        (&[(59, 1)], Some(ExportPlace(2))),
+        (&[(60, 3)], Some(ExportPlace(2))),
+        (&[(65, 0)], Some(RelocKind(0))),
+        (&[(97, 30)], Some(RelocKind(4))),
+        (&[(64, 2)], Some(RelocPlace(0))),
+        (&[(62, 1)], Some(RelocPlace(0))),
+        (&[(94, 3)], Some(RelocPlace(4))),
+        (&[(70, 0)], Some(RelocOrder(1))),
+        (&[(94, 1)], Some(RelocOrder(4))),
+        (&[(96, 0), (94, 6)], Some(RelocOrder(4))),
+        (&[(66, 11)], Some(Target(0))),
+        (&[(66, 15)], Some(Target(0))),
+        (&[(98, 10)], Some(Target(4))),
+        (&[(32, 0x81)], Some(FieldNotZero(0))),
+        (&[(43, 1)], Some(FieldNotZero(4))),
+        // what is just allowed
+        (&[(48, 8)], None),
+        (&[(66, 10)], None),
+        (&[(96, 1), (98, 10)], None),
+        // two faults, of which the first in order is answered
+        (&[(0, 0), (18, 1)], Some(Magic)),
+        (&[(31, 1), (8, 9)], Some(Reserved)),
+        (&[(12, 3), (17, 1)], Some(Parity)),
+        (&[(16, 6), (44, 15)], Some(Length)),
+        (&[(44, 15), (46, 4)], Some(ExportOrder(0))),
+        (&[(46, 4), (50, 15)], Some(ExportPlace(0))),
+        (&[(59, 1), (65, 0)], Some(ExportPlace(2))),
+        (&[(65, 0), (64, 2)], Some(RelocKind(0))),
+        (&[(70, 1), (74, 11)], Some(RelocPlace(1))),
+        (&[(70, 0), (74, 11)], Some(RelocOrder(1))),
+        (&[(66, 11), (32, 0x81)], Some(Target(0))),
+    ];
+    for (changes, want) in rows {
+        let bytes = changed(rt.alloc(), changes)?;
+        assert_eq!(rt; read_package(&bytes).err(), want, "{changes:?}");
+    }
+    Ok(())
+}
+
+#[test]
+fn lengths(rt: HostRuntime) -> Result<(), Fail> {
+    let mut longer = SAMPLE.to_vec(rt.alloc())?;
+    longer.push(0)?;
+    for (count, want) in [
+        (0, Some(PackageFault::Short)),
+        (31, Some(PackageFault::Short)),
+        (32, Some(PackageFault::Length)),
+        (101, Some(PackageFault::Length)),
+        (102, None),
+        (103, Some(PackageFault::Length)),
+    ] {
+        let bytes = longer.get(..count).ok_or("too few")?;
+        assert_eq!(rt; read_package(bytes).err(), want, "{count} bytes");
+    }
+    Ok(())
+}
+
+#[test]
+fn greatest_package(rt: HostRuntime) -> Result<(), Fail> {
+    // The length of code in the header, how many bytes there are, and what is wrong.
+    for (code, count, want) in [
+        (9952u16, 9984, None),
+        (9952, 9985, Some(PackageFault::Length)),
+        (9954, 9986, Some(PackageFault::Length)),
+    ] {
+        let mut bytes = vec![in rt.alloc(); 0; count]?;
+        let [low, high] = code.to_le_bytes();
+        for (at, byte) in [
+            (0, 0x46),
+            (1, 0x43),
+            (2, 0x50),
+            (3, 0x31),
+            (8, low),
+            (9, high),
+        ] {
+            if let Some(x) = bytes.get_mut(at) {
+                *x = byte;
+            }
+        }
+        assert_eq!(rt; read_package(&bytes).err(), want, "{count} bytes");
+    }
+    Ok(())
+}
+
+#[test]
+fn piece_by_piece(rt: HostRuntime) -> Result<(), Fail> {
+    let raw = [
+        0x46, 0x43, 0x50, 0x31, 1, 0, 1, 0, 6, 0, 0, 0, 0, 0, 0, 0, 1, 0, 0, 0, 0, 0, 0, 0, 0, 0,
+        0, 0, 0, 0, 0, 0,
+    ];
+    let header = read_header(&raw, 46).ok().ok_or("a header")?;
+    assert_eq!(rt; read_header(&raw, 45), Err(PackageFault::Length));
+    assert_eq!(rt; header.total(), 46);
+    let call = [0, 0, 0, 0x12, 0x10, 0, 0, 0];
+    assert_eq!(rt; field_span(&header, &call), Some((32, 4)));
+    assert_eq!(rt; field_span(&header, &[4, 0, 0, 0x12, 0x10, 0, 0, 0]), None);
+    assert!(rt; check_reloc(&header, None, 0, &call, &[0x0E, 0x94, 0, 0]).is_ok());
+    assert_eq!(rt;
+        check_reloc(&header, None, 9, &call, &[0x0F, 0x94, 0, 0]),
+        Err(PackageFault::FieldNotZero(9))
+    );
+    assert!(rt; check_export(&header, Some(15), 0, &[16, 0, 0x80, 0, 6, 0]).is_ok());
+    assert_eq!(rt;
+        check_export(&header, Some(16), 1, &[16, 0, 0, 0, 0, 0]),
+        Err(PackageFault::ExportOrder(1))
+    );
+    faultless_bytes_spell();
+    spelling_is_one();
+    steps_find_the_fault();
+    Ok(())
+}
