@@ -8,3 +8,4 @@ pub mod Views
 pub mod Done
 pub mod Addresses
 pub mod Causes
+pub mod Different

@@ -26,7 +26,7 @@ read_more set n views next b c are here says is e =
       sound = subst (λ (xs : List Component). All IsComponent xs) (sym e) (All-push IsComponent views c are.sound is);
     }
 
-numbers : (set : List (List ℕ)) → map (λ b. (component_of b).component) set ≡ map (λ c. c.component) (map component_of set)
+pub numbers : (set : List (List ℕ)) → map (λ b. (component_of b).component) set ≡ map (λ c. c.component) (map component_of set)
 numbers [] = refl
 numbers (b ∷ bs) = ap (λ (ns : List ℕ). (component_of b).component ∷ ns) (numbers bs)
 

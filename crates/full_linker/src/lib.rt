@@ -9,8 +9,11 @@ mod fault;
 mod linking;
 mod parts;
 mod placed;
+mod set;
 mod sites;
 mod symbols;
 
 pub use fault::LinkFault;
 pub use linking::link;
+pub use set::may_be_linked;
+

@@ -4,11 +4,11 @@ ghost use Rattle.std.specs.Prelude.{◌≡◌, ◌≤◌, None, map, length, IfO
 ghost use Rattle.std.specs.List.{All, AllPairs};
 ghost use Rattle.avr_reloc.specs.Field.{AreBytes, IsNear};
 ghost use Rattle.avr_reloc.specs.Fixups.{CanBePut, ArePut, AreApart};
-ghost use Rattle.component_package.specs.Reading.{component_of, package_fault};
-ghost use Rattle.component_package.specs.Manifest.{AreDistinct};
+ghost use Rattle.component_package.specs.Reading.{component_of};
 ghost use Rattle.component_package.specs.Link.{link_cause, plain_of, sites_of, fixups_of, sites_cause, IsImage};
 ghost use Rattle.link_laws.specs.Sets.{IsSet};
 ghost use Rattle.full_linker.specs.Faults.{Says};
+ghost use Rattle.full_linker.specs.Linkable.{AreLinkable};
 ghost use Rattle.full_linker.specs.Placed.{IsPlaced};
 
 use crate::fault::LinkFault;
@@ -94,9 +94,7 @@ fn image_of(alloc: Global, set: &[PackageView<'_>]) -> Result<Vec<u8>, LinkFault
 /// The image is at most 122,880 bytes long and begins at program address 0. Where there is none,
 /// the answer is the first cause, as [`LinkFault`] lists them, or `Memory`.
 pub fn link(alloc: Global, set: &[Bytes]) -> Result<Vec<u8>, LinkFault>
-    requires packages { All (λ b. package_fault b ≡ None) set.now }
-    requires few { length set.now ≤ 16 }
-    requires different { AreDistinct (map (λ b. (component_of b).component) set.now) }
+    requires { AreLinkable set.now }
     ensures image { IfOk result (λ v. IsImage (map component_of set.now) v.items) }
     ensures fault { IfErr result (λ f. Says f (link_cause (map component_of set.now))) }
 {
