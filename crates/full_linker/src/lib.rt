@@ -17,3 +17,5 @@ pub use fault::LinkFault;
 pub use linking::link;
 pub use set::may_be_linked;
 
+#[cfg(test)]
+mod tests;

@@ -9,10 +9,11 @@ returns c =
     let set = c.args.set.now in
     let views = c.deref.ensures.value ∙ c.in_ok-views.ensures.views in
     let same = c.deref-2.ensures.value ∙ c.in_ok-numbers.ensures ∙ ap (map (λ (c : Component). c.component)) views ∙ sym (numbers set) in
-    let distinct = c.are_distinct.ensures in
-    (λ yes. record {
-      few = omega (arith, c.if-set-gt16.false);
-      packages = c.are_packages.ensures.0 c.if-not-are_packages.false;
-      different = subst (λ (ns : List ℕ). AreDistinct ns) same (distinct.0 yes);
-    },
-      λ are. distinct.1 (subst (λ (ns : List ℕ). AreDistinct ns) (sym same) are.different))
+    let distinct = c.are_distinct.ensures in (
+      λ yes. record {
+        few = omega (arith, c.if-set-gt16.false);
+        packages = c.are_packages.ensures.0 c.if-not-are_packages.false;
+        different = subst (λ (ns : List ℕ). AreDistinct ns) same (distinct.0 yes);
+      },
+      λ are. distinct.1 (subst (λ (ns : List ℕ). AreDistinct ns) (sym same) are.different),
+    )
