@@ -14,11 +14,13 @@ use Rattle.full_linker.proofs.Distinct.{occurs, distinct_push}
 
 -- ---- One export
 
+-- what is set is read again
 set_same : {X : Type 0} (xs : List X) (i : ℕ) (x : X) → i < length xs → slice_get (slice_set xs i x) i ≡ Some x
 set_same [] i x lt = absurd (omega (arith, lt))
 set_same (y ∷ ys) zero x lt = refl
 set_same (y ∷ ys) (suc i) x lt = set_same ys i x (omega (arith, lt))
 
+-- and all else stays
 set_other : {X : Type 0} (xs : List X) (i j : ℕ) (x : X) → (i ≡ j → ⊥) → slice_get (slice_set xs i x) j ≡ slice_get xs j
 set_other [] i j x h = refl
 set_other (y ∷ ys) zero zero x h = absurd (h refl)
@@ -26,11 +28,13 @@ set_other (y ∷ ys) zero (suc j) x h = refl
 set_other (y ∷ ys) (suc i) zero x h = refl
 set_other (y ∷ ys) (suc i) (suc j) x h = set_other ys i j x (λ e. h (ap suc e))
 
+-- setting keeps the length
 set_length : {X : Type 0} (xs : List X) (i : ℕ) (x : X) → length (slice_set xs i x) ≡ length xs
 set_length [] i x = refl
 set_length (y ∷ ys) zero x = refl
 set_length (y ∷ ys) (suc i) x = ap suc (set_length ys i x)
 
+-- a number is equal to itself
 self_equal : (n : ℕ) → eqb n n ≡ true
 self_equal n = grind arith
 
@@ -48,6 +52,7 @@ slots_after xs slots x new small are e = record {
   ];
 }
 
+-- a symbol occurs where an export of it does
 any_symbol : (s : ℕ) (xs : List (ℕ × Export)) → occurs s (map (λ x. x.1.symbol) xs) ≡ list_any (is_export_of s) xs
 any_symbol s [] = refl
 any_symbol s (x ∷ xs) = ap (λ b. eqb x.1.symbol s || b) (any_symbol s xs)
@@ -57,15 +62,18 @@ found_none : (s : ℕ) (xs : List (ℕ × Export)) → ◌≡◌ {A = ℕ} (cond
 found_none s [] = refl
 found_none s (x ∷ xs) = elim (cases_Bool (eqb x.1.symbol s)) [ inl hit ↦ rw hit refl | inr miss ↦ rw miss (found_none s xs) ]
 
+-- 1 where nothing is there
 new_none : {X : Type 0} (o : Option X) (r : Bool) → is_some o ≡ not r → ◌≡◌ {A = ℕ} (cond r 1 0) (cond (is_none o) 1 0)
 new_none None true e = refl
 new_none None false e = absurd cc
 new_none (Some x) true e = absurd cc
 new_none (Some x) false e = refl
 
+-- 1 where a slot has no first export
 pub is_new : (slot other : Slot) (r : Bool) → is_some slot.first ≡ not r → slot ≡ other → ◌≡◌ {A = ℕ} (cond r 1 0) (cond (is_none other.first) 1 0)
 is_new slot other r e same = new_none slot.first r e ∙ ap (λ (z : Slot). cond (is_none z.first) 1 0) same
 
+-- one export more counts where its symbol is new
 pub count_after : (xs : List (ℕ × Export)) (x : ℕ × Export) (n : ℕ) → n ≡ cond (is_none (slot_of xs x.1.symbol).first) 1 0 → different_symbols (xs ++ x ∷ []) ≡ different_symbols xs + n
 count_after xs x n e =
     ap (λ ss. length (distinct ss)) (map-append (λ (y : ℕ × Export). y.1.symbol) xs (x ∷ [])) ∙ distinct_push (map (λ y. y.1.symbol) xs) x.1.symbol
@@ -73,6 +81,7 @@ count_after xs x n e =
 
 -- ---- All exports of a component
 
+-- exports with their component
 abbrev pub paired : ℕ → List Export → List (ℕ × Export)
 paired k es = map (λ e. (k, e)) es
 
@@ -83,10 +92,12 @@ pub record AreAdded (k : ℕ) (es : List Export) (old now : List Slot) (i count 
   pub counted : (xs : List (ℕ × Export)) → AreSlots xs old → different_symbols (xs ++ take i (paired k es)) ≡ different_symbols xs + count
   pub small : count ≤ i
 
+-- nothing appended
 append_none : {X : Type 0} (xs : List X) → xs ++ [] ≡ xs
 append_none [] = refl
 append_none (x ∷ xs) = ap (λ ys. x ∷ ys) (append_none xs)
 
+-- before the first export
 pub added_none : (k : ℕ) (es : List Export) (old : List Slot) → length old ≡ 2 ^ 16 → AreAdded k es old old 0 0
 added_none k es old size = record {
   size = size;
@@ -95,12 +106,14 @@ added_none k es old size = record {
   small = omega arith;
 }
 
+-- one export more, with its component
 paired_more : (k : ℕ) (es : List Export) (i : ℕ) (e : Export) → slice_get es i ≡ Some e → take (i + 1) (paired k es) ≡ take i (paired k es) ++ (k, e) ∷ []
 paired_more k es i e here =
     let lt = slice_get_within es i e here in
     take-map (λ (f : Export). (k, f)) (i + 1) es ∙ ap (map (λ (f : Export). (k, f))) (take_more es i e lt ∙ ap (λ f. take i es ++ f ∷ []) (get_or_from_slice_get es i e e here))
     ∙ map-append (λ (f : Export). (k, f)) (take i es) (e ∷ []) ∙ ap (λ (ys : List (ℕ × Export)). ys ++ (k, e) ∷ []) (sym (take-map (λ (f : Export). (k, f)) i es))
 
+-- the next export is put in
 pub added_more : (k : ℕ) (es : List Export) (old slots next : List Slot) (i count n : ℕ) (e : Export) → AreAdded k es old slots i count → slice_get es i ≡ Some e
     → length next ≡ 2 ^ 16 → ((xs : List (ℕ × Export)) → AreSlots xs slots → AreSlots (xs ++ (k, e) ∷ []) next)
     → ((xs : List (ℕ × Export)) → AreSlots xs slots → different_symbols (xs ++ (k, e) ∷ []) ≡ different_symbols xs + n) → n ≤ 1
@@ -116,16 +129,19 @@ added_more k es old slots next i count n e are here size after counts small =
       small = omega (arith, are.small, small);
     }
 
+-- all exports of a component
 pub added_all : (k : ℕ) (es : List Export) (i : ℕ) → length es ≤ i → take i (paired k es) ≡ paired k es
 added_all k es i past = take_all i (paired k es) (omega (arith, length-map {B = ℕ × Export} es (λ e. (k, e))))
 
 -- ---- No export
 
+-- each of many is the same
 replicated : (n : ℕ) (x : Slot) (i : ℕ) → i < n → slice_get (replicate n x) i ≡ Some x
 replicated zero x i lt = absurd (omega (arith, lt))
 replicated (suc n) x zero lt = refl
 replicated (suc n) x (suc i) lt = replicated n x i (omega (arith, lt))
 
+-- slots with nothing in them are those of no exports
 pub blank_slots : (none : Slot) → none ≡ record { first = None; strong = None; second = None } → (slots : List Slot) → slots ≡ replicate (2 ^ 16) none → AreSlots [] slots
 blank_slots none e slots all = record {
   size = ap length all ∙ length-replicate {A = Slot} (2 ^ 16) none;

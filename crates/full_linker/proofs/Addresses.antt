@@ -24,8 +24,10 @@ exporter_inside set components s x e =
     let exported = definition_has set (IsExported set) s x (all_exported set components) e in
     slice_get_within set x.0 exported.owner exported.at.here
 
+-- a symbol without a definition has no address
 pub address_none : (set : List Component) (s : ℕ) → definition_of set s ≡ None → None ≡ address_of set s
 address_none set s e = sym (ap (option_map (λ x. base_of_place set x.0 x.1.place + x.1.value)) e)
 
+-- the address is the base of the part plus the value
 pub address_some : (set : List Component) (s n : ℕ) (x : ℕ × Export) → definition_of set s ≡ Some x → n ≡ base_of_place set x.0 x.1.place → Some (n + x.1.value) ≡ address_of set s
 address_some set s n x e base = ap (λ k. Some (k + x.1.value)) base ∙ sym (ap (option_map (λ x. base_of_place set x.0 x.1.place + x.1.value)) e)

@@ -28,22 +28,27 @@ says_more (faults.Undefined k r s) part whole says same = same _ says
 says_more (faults.Range k r e) part whole says same = same _ says
 says_more faults.Memory part whole says same = tt
 
+-- a fault of the layout comes first
 pub says_room : (set : List Component) (f : LinkFault) → Says f (room_cause (rooms_of set)) → Says f (link_cause set)
 unfolding link_cause
 says_room set f says = says_more f (room_cause (rooms_of set)) (link_cause set) says (λ d e. rw e refl)
 
+-- then too many symbols
 pub says_symbols : (set : List Component) (f : LinkFault) → room_cause (rooms_of set) ≡ None → Says f (symbols_cause set) → Says f (link_cause set)
 unfolding link_cause
 says_symbols set f a says = says_more f (symbols_cause set) (link_cause set) says (λ d e. rw (a, e) refl)
 
+-- then too many relocations
 pub says_relocations : (set : List Component) (f : LinkFault) → room_cause (rooms_of set) ≡ None → symbols_cause set ≡ None → Says f (relocations_cause set) → Says f (link_cause set)
 unfolding link_cause
 says_relocations set f a b says = says_more f (relocations_cause set) (link_cause set) says (λ d e. rw (a, b, e) refl)
 
+-- then a symbol exported twice
 pub says_duplicate : (set : List Component) (f : LinkFault) → room_cause (rooms_of set) ≡ None → symbols_cause set ≡ None → relocations_cause set ≡ None → Finds (Some f) (duplicate_cause set) → Says f (link_cause set)
 unfolding link_cause
 says_duplicate set f a b c found = says_found f (duplicate_cause set) (link_cause set) found (λ d e. rw (a, b, c, e) refl)
 
+-- then the first fault at a relocation
 pub says_sites : (set : List Component) (f : LinkFault) → room_cause (rooms_of set) ≡ None → symbols_cause set ≡ None → relocations_cause set ≡ None → duplicate_cause set ≡ None → Says f (sites_cause set) → Says f (link_cause set)
 unfolding link_cause
 says_sites set f a b c d says = says_more f (sites_cause set) (link_cause set) says (λ x e. rw (a, b, c, d, e) refl)

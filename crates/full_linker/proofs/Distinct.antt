@@ -5,26 +5,33 @@ use Rattle.std.specs.List.{list_any}
 use Rattle.std.proofs.lemmas.Bool.{cases_Bool, eqb-true}
 use Rattle.component_package.specs.Link.{distinct}
 
+-- a symbol is in a list
 abbrev pub occurs : ℕ → List ℕ → Bool
 occurs t ss = list_any (λ u. eqb u t) ss
 
+-- 1 where it is not
 abbrev pub one_if_new : ℕ → List ℕ → ℕ
 one_if_new t ss = cond (occurs t ss) 0 1
 
+-- a number is equal to itself
 self_equal : (n : ℕ) → eqb n n ≡ true
 self_equal n = grind arith
 
+-- two numbers differ both ways
 eqb_sym : (m n : ℕ) → eqb m n ≡ false → eqb n m ≡ false
 eqb_sym m n e = grind arith
 
+-- the last one occurs
 occurs_last : (s : ℕ) (ss : List ℕ) → occurs s (ss ++ s ∷ []) ≡ true
 occurs_last s [] = rw (self_equal s) refl
 occurs_last s (u ∷ us) = elim (cases_Bool (eqb u s)) [ inl hit ↦ rw hit refl | inr miss ↦ rw miss (occurs_last s us) ]
 
+-- another last one changes nothing
 occurs_other : (s t : ℕ) (ss : List ℕ) → eqb t s ≡ false → occurs s (ss ++ t ∷ []) ≡ occurs s ss
 occurs_other s t [] e = rw e refl
 occurs_other s t (u ∷ us) e = ap (λ b. eqb u s || b) (occurs_other s t us e)
 
+-- what occurs still occurs in a longer list
 occurs_more : (s t : ℕ) (ss : List ℕ) → occurs s ss ≡ true → occurs s (ss ++ t ∷ []) ≡ true
 occurs_more s t [] e = absurd cc
 occurs_more s t (u ∷ us) e = elim (cases_Bool (eqb u s)) [ inl hit ↦ rw hit refl | inr miss ↦ rw miss (occurs_more s t us (rw miss at e)) ]

@@ -20,14 +20,17 @@ pub record AreDone (set : List Component) (sites : List Site) (n : ℕ) (fixups 
   pub near : All (λ (x : Fixup). IsNear x.s_plus_a) fixups
   pub none : first_cause (site_cause set) (take n sites) ≡ None
 
+-- the first of two, where the former is none
 first_or : (a b d z : Option Cause) → option_or a b ≡ None → (b ≡ None → d ≡ z) → option_or a d ≡ z
 first_or None b d z e h = h e
 first_or (Some c) b d z e h = absurd cc
 
+-- the first cause of a longer list, where the front has none
 first_append : (f : Site → Option Cause) (xs ys : List Site) → first_cause f xs ≡ None → first_cause f (xs ++ ys) ≡ first_cause f ys
 first_append f [] ys e = refl
 first_append f (x ∷ xs) ys e = first_or (f x) (first_cause f xs) (first_cause f (xs ++ ys)) (first_cause f ys) e (first_append f xs ys)
 
+-- the rest begins with the next element
 drop_more : {X : Type 0} (xs : List X) (n : ℕ) (x : X) → slice_get xs n ≡ Some x → drop n xs ≡ x ∷ drop (suc n) xs
 drop_more [] n x e = absurd cc
 drop_more (y ∷ ys) zero x e = let same : y ≡ x = cc in ap (λ z. z ∷ ys) same
@@ -53,6 +56,7 @@ first_here set sites n d c lt none fault =
     sym (ap (first_cause (site_cause set)) (take-append-drop n sites)) ∙ first_append (site_cause set) (take n sites) (drop n sites) none
     ∙ ap (first_cause (site_cause set)) (drop_more sites n (get_or sites n d) (slice_get-get_or sites n d lt)) ∙ rw fault refl
 
+-- what holds of all holds of each
 all_at : {X : Type 0} (P : X → Type 0) (xs : List X) (i : ℕ) (x : X) → AllByRecursion P xs → slice_get xs i ≡ Some x → P x
 all_at P [] i x all here = absurd cc
 all_at P (y ∷ ys) zero x all here = let same : y ≡ x = cc in subst P same all.0

@@ -14,9 +14,11 @@ use Rattle.link_laws.proofs.Table.{HasSymbol, exports_have_symbols}
 
 -- ---- The least number
 
+-- none is below s
 abbrev Low : ℕ → List ℕ → Type 0
 Low s ss = AllByRecursion (λ t. s ≤ t) ss
 
+-- the least so far, with those to come
 fold_least : (s a : ℕ) (ss : List ℕ) → s ≤ a → Low s ss → (a ≡ s) ⊎ (list_any (λ t. eqb t s) ss ≡ true) → fold min a ss ≡ s
 fold_least s a [] le low (inl e) = e
 fold_least s a [] le low (inr any) = absurd cc
@@ -27,6 +29,7 @@ fold_least s a (t ∷ ts) le low (inr any) =
       | inr there ↦ fold_least s (min a t) ts (omega (arith, le, low.0)) low.1 (inr there)
     ]
 
+-- a number of the list that none is below is its least
 least_is : (s : ℕ) (ss : List ℕ) → Low s ss → list_any (λ t. eqb t s) ss ≡ true → least_of ss ≡ Some s
 least_is s [] low any = absurd cc
 least_is s (t ∷ ts) low any =
@@ -37,9 +40,11 @@ least_is s (t ∷ ts) low any =
 
 -- ---- Filters
 
+-- a number is equal to itself
 self_equal : (n : ℕ) → eqb n n ≡ true
 self_equal n = grind arith
 
+-- what passes the test is kept
 any_kept : (q : ℕ → Bool) (s : ℕ) (ss : List ℕ) → q s ≡ true → list_any (λ t. eqb t s) ss ≡ true → list_any (λ t. eqb t s) (filter q ss) ≡ true
 any_kept q s [] pass any = absurd cc
 any_kept q s (t ∷ ts) pass any =
@@ -51,6 +56,7 @@ any_kept q s (t ∷ ts) pass any =
       ]
     ]
 
+-- where nothing below s passes, nothing kept is below
 low_kept : (q : ℕ → Bool) (s : ℕ) → ((t : ℕ) → t < s → q t ≡ false) → (ss : List ℕ) → Low s (filter q ss)
 low_kept q s below [] = tt
 low_kept q s below (t ∷ ts) =
@@ -59,32 +65,39 @@ low_kept q s below (t ∷ ts) =
       | inr miss ↦ rw miss (low_kept q s below ts)
     ]
 
+-- where nothing passes, nothing is kept
 none_kept : (q : ℕ → Bool) (n : ℕ) → ((t : ℕ) → t < n → q t ≡ false) → (ss : List ℕ) → AllByRecursion (λ t. t < n) ss → filter q ss ≡ []
 none_kept q n none [] small = refl
 none_kept q n none (t ∷ ts) small = rw (none t small.0) (none_kept q n none ts small.1)
 
 -- ---- Exporters
 
+-- the component of the second export of a symbol that is not weak
 abbrev pub second_at : List Component → ℕ → Option ℕ
 second_at set s = (slot_of (exports_of set) s).second
 
+-- two components export a symbol not weakly
 abbrev has_two : List Component → ℕ → Bool
 has_two set s = nat_le 2 (length (strong_exporters set s))
 
+-- without a second there are fewer than two
 no_second : (is : List ℕ) → second_of is ≡ None → nat_le 2 (length is) ≡ false
 no_second [] e = refl
 no_second (i ∷ []) e = refl
 no_second (i ∷ j ∷ is) e = absurd cc
 
+-- with a second there are at least two
 two : (is : List ℕ) (j : ℕ) → second_of is ≡ Some j → nat_le 2 (length is) ≡ true
 two [] j e = absurd cc
 two (i ∷ []) j e = absurd cc
 two (i ∷ k ∷ is) j e = grind arith
 
+-- the first two are the first and the second
 first_two_are : (s i j : ℕ) (is : List ℕ) → second_of (i ∷ is) ≡ Some j → first_two s (i ∷ is) ≡ Some (Duplicate s i j)
 first_two_are s i j [] e = absurd cc
 first_two_are s i j (k ∷ is) e = let same : k ≡ j = cc in ap (λ n. Some (Duplicate s i n)) same
 
+-- an exported symbol is one of the set
 any_export : (s : ℕ) (x : ℕ × Export) (xs : List (ℕ × Export)) → find (is_strong_export_of s) xs ≡ Some x → list_any (λ t. eqb t s) (map (λ y. y.1.symbol) xs) ≡ true
 any_export s x [] e = absurd cc
 any_export s x (y ∷ ys) e =
@@ -105,6 +118,7 @@ duplicate_at set s j x below strong second =
     ap (option_and_then (λ t. first_two t (strong_exporters set t))) least ∙ ap (first_two s) exporters
     ∙ first_two_are s x.0 j (map (λ y. y.0) starts.rest) (sym (ap second_of exporters) ∙ second)
 
+-- symbols have two bytes
 symbols_small : (xs : List (ℕ × Export)) → AllByRecursion HasSymbol xs → AllByRecursion (λ t. t < 2 ^ 16) (map (λ y. y.1.symbol) xs)
 symbols_small [] all = tt
 symbols_small (x ∷ xs) all = (all.0.high, symbols_small xs all.1)
@@ -115,6 +129,7 @@ no_duplicate set components none =
     ap (λ (ss : List ℕ). option_and_then (λ t. first_two t (strong_exporters set t)) (least_of ss))
     (none_kept (has_two set) (2 ^ 16) (λ t lt. no_second (strong_exporters set t) (none t lt)) (symbols_of set) (symbols_small (exports_of set) (exports_have_symbols set components)))
 
+-- where none is found, none passes
 none_found : {X : Type 0} (p : X → Bool) (xs : List X) → find p xs ≡ None → filter p xs ≡ []
 none_found p [] e = refl
 none_found p (x ∷ xs) e = elim (cases_Bool (p x)) [ inl hit ↦ absurd (let f = rw hit at e in cc) | inr miss ↦ rw miss (none_found p xs (rw miss at e)) ]
@@ -123,6 +138,7 @@ none_found p (x ∷ xs) e = elim (cases_Bool (p x)) [ inl hit ↦ absurd (let f 
 pub no_strong : (set : List Component) (t : ℕ) → (slot_of (exports_of set) t).strong ≡ None → second_at set t ≡ None
 no_strong set t e = ap (λ xs. second_of (map (λ x. x.0) xs)) (none_found (is_strong_export_of t) (exports_of set) e)
 
+-- what is never some is none
 pub none_of : {X : Type 0} (o : Option X) → ((x : X) → o ≡ Some x → ⊥) → o ≡ None
 none_of None h = refl
 none_of (Some x) h = absurd (h x refl)

@@ -10,9 +10,11 @@ use Rattle.component_package.specs.declared.part.Export.{Export}
 use Rattle.component_package.specs.Link.{is_strong_export_of}
 use Rattle.full_linker.specs.Slots.{second_of, slot_of}
 
+-- an export of this symbol
 abbrev pub is_export_of : ℕ → (ℕ × Export) → Bool
 is_export_of s x = eqb x.1.symbol s
 
+-- a number is equal to itself
 self_equal : (n : ℕ) → eqb n n ≡ true
 self_equal n = grind arith
 
@@ -20,20 +22,25 @@ self_equal n = grind arith
 find_hit : {X : Type 0} (p : X → Bool) (xs : List X) (x : X) → p x ≡ true → find p (xs ++ x ∷ []) ≡ option_or (find p xs) (Some x)
 find_hit p xs x e = find-append p xs (x ∷ []) ∙ rw e refl
 
+-- something or nothing
 option_or_none : {X : Type 0} (o : Option X) → option_or o None ≡ o
 option_or_none None = refl
 option_or_none (Some x) = refl
 
+-- an element that fails the test changes nothing
 find_miss : {X : Type 0} (p : X → Bool) (xs : List X) (x : X) → p x ≡ false → find p (xs ++ x ∷ []) ≡ find p xs
 find_miss p xs x e = find-append p xs (x ∷ []) ∙ rw e (option_or_none (find p xs))
 
+-- nothing appended
 append_none : {X : Type 0} (xs : List X) → xs ++ [] ≡ xs
 append_none [] = refl
 append_none (x ∷ xs) = ap (λ ys. x ∷ ys) (append_none xs)
 
+-- an element that fails the test is not kept
 filter_miss : {X : Type 0} (p : X → Bool) (xs : List X) (x : X) → p x ≡ false → filter p (xs ++ x ∷ []) ≡ filter p xs
 filter_miss p xs x e = filter-append p xs (x ∷ []) ∙ rw e (append_none (filter p xs))
 
+-- one that passes is kept at the end
 filter_hit : {X : Type 0} (p : X → Bool) (xs : List X) (x : X) → p x ≡ true → filter p (xs ++ x ∷ []) ≡ filter p xs ++ x ∷ []
 filter_hit p xs x e = filter-append p xs (x ∷ []) ∙ rw e refl
 
@@ -47,6 +54,7 @@ pub record Starts {X : Type 0} (p : X → Bool) (xs : List X) (x : X) : Type 0 w
   pub rest : List X
   pub is : filter p xs ≡ x ∷ rest
 
+-- what is found first begins what is kept
 pub find_some_filter : {X : Type 0} (p : X → Bool) (xs : List X) (x : X) → find p xs ≡ Some x → Starts p xs x
 find_some_filter p [] x e = absurd cc
 find_some_filter p (y ∷ ys) x e =
@@ -55,6 +63,7 @@ find_some_filter p (y ∷ ys) x e =
       | inr miss ↦ let s = find_some_filter p ys x (rw miss at e) in record { rest = s.rest; is = rw miss s.is }
     ]
 
+-- one more is the second where there was one
 second_push : (i k : ℕ) (rest : List ℕ) → second_of ((i ∷ rest) ++ k ∷ []) ≡ option_or (second_of (i ∷ rest)) (Some k)
 second_push i k [] = refl
 second_push i k (j ∷ rest) = refl

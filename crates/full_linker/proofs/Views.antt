@@ -16,6 +16,7 @@ pub record AreRead (set : List (List ℕ)) (n : ℕ) (views : List Component) : 
   pub said : views ≡ map component_of (take n set)
   pub sound : All IsComponent views
 
+-- the next package is read
 pub read_more : (set : List (List ℕ)) (n : ℕ) (views next : List Component) (b : List ℕ) (c : Component) → AreRead set n views → slice_get set n ≡ Some b → c ≡ component_of b → IsComponent c
     → next ≡ views ++ c ∷ [] → AreRead set (n + 1) next
 read_more set n views next b c are here says is e =
@@ -26,6 +27,7 @@ read_more set n views next b c are here says is e =
       sound = subst (λ (xs : List Component). All IsComponent xs) (sym e) (All-push IsComponent views c are.sound is);
     }
 
+-- the numbers of packages are those of their components
 pub numbers : (set : List (List ℕ)) → map (λ b. (component_of b).component) set ≡ map (λ c. c.component) (map component_of set)
 numbers [] = refl
 numbers (b ∷ bs) = ap (λ (ns : List ℕ). (component_of b).component ∷ ns) (numbers bs)

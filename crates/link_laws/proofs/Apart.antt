@@ -22,6 +22,7 @@ use Rattle.component_package.specs.Grammar.{IsReloc, position_in, RelocsRise, Is
 use Rattle.component_package.specs.Layout.{Room, room_of, code_total, code_base, load_base}
 use Rattle.component_package.specs.Link.{rooms_of, sites_in, fixup_of, fixups_of}
 
+-- a field ends within its part
 abbrev pub Fits : Component → Reloc → Type 0
 Fits c r = r.offset + reloc_width r ≤ cond r.in_init (length c.init) (length c.code)
 
@@ -40,9 +41,11 @@ sum_step f rooms i j d lt inside =
 pub record IsAt (set : List Component) (k : ℕ) (c : Component) : Type 0 where
   pub here : slice_get set k ≡ Some c
 
+-- the room of the component at k
 pub room_at : (set : List Component) (k : ℕ) (c : Component) → IsAt set k c → get_or (rooms_of set) k (room_of c) ≡ room_of c
 room_at set k c h = get_or_from_slice_get (rooms_of set) k (room_of c) (room_of c) (slice_get-map room_of set k ∙ ap (option_map room_of) h.here)
 
+-- its place is below the length of the set
 pub rooms_length : (set : List Component) (k : ℕ) (c : Component) → IsAt set k c → k < length (rooms_of set)
 rooms_length set k c h = omega (arith, slice_get_within set k c h.here, length-map set room_of)
 
@@ -52,6 +55,7 @@ pub record Stands (set : List Component) (k : ℕ) (c : Component) : Type 0 wher
   pub init_before : (j : ℕ) → k < j → j ≤ length (rooms_of set) → load_base (rooms_of set) k + length c.init ≤ load_base (rooms_of set) j
   pub code_low : code_base (rooms_of set) k + length c.code ≤ code_total (rooms_of set)
 
+-- where a component of the set stands
 pub stands : (set : List Component) (k : ℕ) (c : Component) → IsAt set k c → Stands set k c
 stands set k c h =
     let rooms = rooms_of set in
@@ -65,6 +69,7 @@ stands set k c h =
 
 -- ---- the fields
 
+-- the field of a relocation of component k
 abbrev pub field : List Component → ℕ → ℕ → Reloc → Fixup
 field set k i r = fixup_of set (record { component = k; index = i; reloc = r })
 
@@ -84,6 +89,7 @@ between false true b l n m b' l' n' m' t x v y w h1 h2 h3 h4 h5 h6 fx fy = inr (
 between true false b l n m b' l' n' m' t x v y w h1 h2 h3 h4 h5 h6 fx fy = inl (omega arith)
 between true true b l n m b' l' n' m' t x v y w h1 h2 h3 h4 h5 h6 fx fy = inr (omega arith)
 
+-- a field has a byte
 width_positive : (s : Shape) → 0 < width_of s
 width_positive shapes.Byte = omega arith
 width_positive shapes.Word = omega arith
@@ -95,15 +101,18 @@ width_positive shapes.Call = omega arith
 width_positive shapes.Displacement = omega arith
 width_positive shapes.Adiw = omega arith
 
+-- so has that of a relocation
 pub wide : (r : Reloc) → 0 < reloc_width r
 wide r = width_positive (shape_of r.kind)
 
+-- two fields of one component share no byte
 within_one : (set : List Component) (k : ℕ) (c : Component) → IsAt set k c → (i j : ℕ) (x y : Reloc) → Fits c x → Fits c y
     → position_in c x + reloc_width x ≤ position_in c y → AreApart (field set k i x) (field set k j y)
 within_one set k c h i j x y fx fy after =
     let s = stands set k c h in
     within x.in_init y.in_init (code_base (rooms_of set) k) (load_base (rooms_of set) k) (length c.code) (length c.init) x.offset (reloc_width x) y.offset (reloc_width y) (omega (arith, s.code_low)) (wide x) (wide y) fx fy after
 
+-- nor do fields of two components
 between_two : (set : List Component) (k k' : ℕ) (c c' : Component) → IsAt set k c → IsAt set k' c' → k < k' → (i j : ℕ) (x y : Reloc) → Fits c x → Fits c' y → AreApart (field set k i x) (field set k' j y)
 between_two set k k' c c' h h' lt i j x y fx fy =
     let s = stands set k c h in
@@ -114,12 +123,14 @@ between_two set k k' c c' h h' lt i j x y fx fy =
 
 -- ---- a component's fields
 
+-- a field and the later ones of its component share no byte
 rise_apart : (set : List Component) (k : ℕ) (c : Component) → IsAt set k c → (i : ℕ) (x : Reloc) → Fits c x → (n low : ℕ) (rs : List Reloc) → position_in c x + reloc_width x ≤ low
     → RelocsRise c low rs → AllByRecursion (Fits c) rs → AllByRecursion (AreApart (field set k i x)) (map (λ r. field set k r.0 r.1) (enumerate_from n rs))
 rise_apart set k c h i x fx n low [] le rise fits = tt
 rise_apart set k c h i x fx n low (y ∷ ys) le rise fits =
     (within_one set k c h i n x y fx fits.0 (omega (arith, rise.0)), rise_apart set k c h i x fx (n + 1) (position_in c y + reloc_width y) ys (omega (arith, rise.0)) rise.1 fits.1)
 
+-- nor do any two of a component's fields
 fields_apart : (set : List Component) (k : ℕ) (c : Component) → IsAt set k c → (n low : ℕ) (rs : List Reloc) → RelocsRise c low rs → AllByRecursion (Fits c) rs
     → PairsApart (map (λ r. field set k r.0 r.1) (enumerate_from n rs))
 fields_apart set k c h n low [] rise fits = tt
@@ -128,13 +139,16 @@ fields_apart set k c h n low (x ∷ xs) rise fits =
 
 -- ---- the fields of a set
 
+-- the fields of a component rise, each within its part
 pub record HasFieldsInOrder (c : Component) : Type 0 where
   pub rise : RelocsRise c 0 c.relocs
   pub fits : AllByRecursion (Fits c) c.relocs
 
+-- a component's fields
 abbrev pub fixups_in : List Component → ℕ → Component → List Fixup
 fixups_in set k c = map (λ r. field set k r.0 r.1) (enumerate_from 0 c.relocs)
 
+-- the fields of the components from n on
 abbrev pub fixups_from : List Component → ℕ → List Component → List Fixup
 fixups_from set n cs = flat_map (λ p. fixups_in set p.0 p.1) (enumerate_from n cs)
 
@@ -143,10 +157,12 @@ abbrev pub AreAt : List Component → ℕ → List Component → Type 0
 AreAt set n [] = Unit {0}
 AreAt set n (c ∷ cs) = IsAt set n c × AreAt set (n + 1) cs
 
+-- what holds of two lists holds of both together
 pub all_append : {X : Type 0} (P : X → Type 0) (xs ys : List X) → AllByRecursion P xs → AllByRecursion P ys → AllByRecursion P (xs ++ ys)
 all_append P [] ys a b = b
 all_append P (x ∷ xs) ys a b = (a.0, all_append P xs ys a.1 b)
 
+-- two lists of fields that share no byte, and share none with each other
 pairs_append : (xs ys : List Fixup) → PairsApart xs → PairsApart ys → AllByRecursion (λ x. AllByRecursion (AreApart x) ys) xs → PairsApart (xs ++ ys)
 pairs_append [] ys a b c = b
 pairs_append (x ∷ xs) ys a b c = (all_append (AreApart x) xs ys a.0 c.0, pairs_append xs ys a.1 b c.1)
@@ -166,11 +182,13 @@ from_later set k c h i x fx n (d ∷ ds) lt are sound =
     (all_append (AreApart (field set k i x)) (fixups_in set n d) (fixups_from set (n + 1) ds) (from_one set k n c d h are.0 lt i x fx 0 d.relocs sound.0.fits)
     (from_later set k c h i x fx (n + 1) ds (omega arith) are.1 sound.1))
 
+-- a component's fields and those of all later components
 all_from_later : (set : List Component) (k : ℕ) (c : Component) → IsAt set k c → (n : ℕ) (cs : List Component) → k < n → AreAt set n cs → AllByRecursion HasFieldsInOrder cs → (m : ℕ) (rs : List Reloc) → AllByRecursion (Fits c) rs
     → AllByRecursion (λ x. AllByRecursion (AreApart x) (fixups_from set n cs)) (map (λ r. field set k r.0 r.1) (enumerate_from m rs))
 all_from_later set k c h n cs lt are sound m [] fits = tt
 all_from_later set k c h n cs lt are sound m (x ∷ xs) fits = (from_later set k c h m x fits.0 n cs lt are sound, all_from_later set k c h n cs lt are sound (m + 1) xs fits.1)
 
+-- the fields of the components from n on share no byte
 pub all_apart : (set : List Component) (n : ℕ) (cs : List Component) → AreAt set n cs → AllByRecursion HasFieldsInOrder cs → PairsApart (fixups_from set n cs)
 all_apart set n [] are sound = tt
 all_apart set n (c ∷ cs) are sound =
@@ -192,6 +210,7 @@ set_apart set are sound = rw (fixups_flat set 0 set) (all_apart set 0 set are so
 pub fits : (c : Component) (r : Reloc) → IsReloc c r → Fits c r
 fits c r is = elim (cases_Bool r.in_init) [ inl e ↦ rw e (rw e at is.inside) | inr e ↦ rw e (rw e at is.inside) ]
 
+-- so do all
 all_fit : (c : Component) (rs : List Reloc) → AllByRecursion (IsReloc c) rs → AllByRecursion (Fits c) rs
 all_fit c [] all = tt
 all_fit c (r ∷ rs) all = (fits c r all.0, all_fit c rs all.1)
@@ -201,6 +220,7 @@ pub in_order : (cs : List Component) → AllByRecursion IsComponent cs → AllBy
 in_order [] all = tt
 in_order (c ∷ cs) all = (record { rise = all.0.reloc_order; fits = all_fit c c.relocs all.0.relocs }, in_order cs all.1)
 
+-- the element behind a front
 here_append : {X : Type 0} (front : List X) (x : X) (back : List X) → slice_get (front ++ x ∷ back) (length front) ≡ Some x
 here_append [] x back = refl
 here_append (y ∷ front) x back = here_append front x back
@@ -215,6 +235,7 @@ at_from front (c ∷ cs) set e =
       subst (λ (k : ℕ). AreAt set k cs) n (at_from (front ++ c ∷ []) cs set longer),
     )
 
+-- each component of a set stands at its place
 pub all_at_place : (set : List Component) → AreAt set 0 set
 all_at_place set = at_from [] set set refl
 

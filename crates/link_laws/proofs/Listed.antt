@@ -19,25 +19,31 @@ use Rattle.component_package.specs.Reading.{reloc_width}
 use Rattle.component_package.specs.Grammar.{position_in, RelocsRise}
 use Rattle.link_laws.proofs.Apart.{Fits, IsAt, AreAt, HasFieldsInOrder, stands, wide, rooms_length}
 
+-- fields rise from low on, and end by high
 abbrev pub RisesTo : ℕ → List Fixup → ℕ → Type 0
 RisesTo low [] high = low ≤ high
 RisesTo low (x ∷ xs) high = (low ≤ x.place) × RisesTo (end_of x) xs high
 
+-- no field begins before the former one ends
 rises_fields : (low high : ℕ) (xs : List Fixup) → RisesTo low xs high → FieldsRise low xs
 rises_fields low high [] rise = tt
 rises_fields low high (x ∷ xs) rise = (rise.0, rises_fields (end_of x) high xs rise.1)
 
+-- one list of fields behind another
 rises_append : (low mid high : ℕ) (xs ys : List Fixup) → RisesTo low xs mid → RisesTo mid ys high → RisesTo low (xs ++ ys) high
 rises_append low mid high [] [] a b = omega (arith, a, b)
 rises_append low mid high [] (y ∷ ys) a b = (omega (arith, a, b.0), b.1)
 rises_append low mid high (x ∷ xs) ys a b = (a.0, rises_append (end_of x) mid high xs ys a.1 b)
 
+-- a relocation of code
 abbrev in_code : Site → Bool
 in_code x = not x.reloc.in_init
 
+-- a relocation of data
 abbrev in_data : Site → Bool
 in_data x = x.reloc.in_init
 
+-- the relocations of a component, counted from n on
 abbrev sites_from : ℕ → ℕ → List Reloc → List Site
 sites_from k n rs = map (λ r. record { component = k; index = r.0; reloc = r.1 }) (enumerate_from n rs)
 
@@ -58,6 +64,7 @@ module _ (f : ℕ → Option ℕ) (set : List Component) where
             rw code (omega (arith, a, pos), rest)
       ]
 
+  -- the same of data
   data_rises : (k : ℕ) (c : Component) (n l low : ℕ) (rs : List Reloc) → l + length c.code ≤ load_base (rooms_of set) k + max low (length c.code) → l ≤ load_base (rooms_of set) k + length c.init → RelocsRise c low rs → AllByRecursion (Fits c) rs
       → RisesTo l (map (fixup_with f set) (filter in_data (sites_from k n rs))) (load_base (rooms_of set) k + length c.init)
   data_rises k c n l low [] a b rise fits = b
@@ -89,22 +96,26 @@ module _ (f : ℕ → Option ℕ) (set : List Component) where
       ∙ ap (map (fixup_with f set)) (filter-append q (sites_in n c) (flat_map (λ p. sites_in p.0 p.1) (enumerate_from (n + 1) cs))) ∙ map-append (fixup_with f set) (filter q (sites_in n c)) (filter q (flat_map (λ p. sites_in p.0 p.1) (enumerate_from (n + 1) cs)))))
       (subst (λ (m : ℕ). RisesTo (base n) (front ++ back) (base m)) end (rises_append (base n) (base (n + 1)) (base (n + 1 + length cs)) front back here rest))
 
+  -- an end that comes later
   raised : (low mid high : ℕ) (xs : List Fixup) → mid ≤ high → RisesTo low xs mid → RisesTo low xs high
   raised low mid high [] le rise = omega (arith, le, rise)
   raised low mid high (x ∷ xs) le rise = (rise.0, raised (end_of x) mid high xs le rise.1)
 
+  -- a component's fields in code rise to the next component's code
   one_code : (k : ℕ) (c : Component) → IsAt set k c → HasFieldsInOrder c → RisesTo (code_base (rooms_of set) k) (map (fixup_with f set) (filter in_code (sites_in k c))) (code_base (rooms_of set) (k + 1))
   one_code k c at sound =
       let s = stands set k c at in
       raised (code_base (rooms_of set) k) (code_base (rooms_of set) k + length c.code) (code_base (rooms_of set) (k + 1)) _ (s.code_before (k + 1) (omega arith) (omega (arith, rooms_length set k c at)))
       (code_rises k c 0 (code_base (rooms_of set) k) 0 c.relocs (omega arith) (omega arith) sound.rise sound.fits)
 
+  -- its fields in data rise to the next component's data
   one_data : (k : ℕ) (c : Component) → IsAt set k c → HasFieldsInOrder c → RisesTo (load_base (rooms_of set) k) (map (fixup_with f set) (filter in_data (sites_in k c))) (load_base (rooms_of set) (k + 1))
   one_data k c at sound =
       let s = stands set k c at in
       raised (load_base (rooms_of set) k) (load_base (rooms_of set) k + length c.init) (load_base (rooms_of set) (k + 1)) _ (s.init_before (k + 1) (omega arith) (omega (arith, rooms_length set k c at)))
       (data_rises k c 0 (load_base (rooms_of set) k) 0 c.relocs (omega arith) (omega arith) sound.rise sound.fits)
 
+  -- nothing more
   plus_none : (n : ℕ) → n ≡ n + 0
   plus_none n = omega arith
 

@@ -31,6 +31,7 @@ use Rattle.link_laws.proofs.Room.{IsSite, all_sites, site_inside, room_from_caus
 
 -- ---- Bytes
 
+-- bytes before bytes
 append_bytes : (a b : List ℕ) → AreBytes a → AreBytes b → AreBytes (a ++ b)
 append_bytes a b p q i =
     elim (cases_lt i (length a)) [
@@ -38,6 +39,7 @@ append_bytes a b p q i =
       | inr le ↦ subst (λ (n : ℕ). n < 256) (sym (get_or-append_right a b i 0 le)) (q (i - length a))
     ]
 
+-- a part of all components is bytes
 parts_bytes : (f : Component → List ℕ) → ((c : Component) → IsComponent c → AreBytes (f c)) → (cs : List Component) → AllByRecursion IsComponent cs → AreBytes (flat_map f cs)
 parts_bytes f each [] all = λ i. omega arith
 parts_bytes f each (c ∷ cs) all = subst AreBytes (sym (flat_map-cons f c cs)) (append_bytes (f c) (flat_map f cs) (each c all.0) (parts_bytes f each cs all.1))
@@ -47,6 +49,7 @@ pub plain_bytes : (set : List Component) → AllByRecursion IsComponent set → 
 plain_bytes set all =
     append_bytes (flat_map (λ c. c.code) set) (flat_map (λ c. c.init) set) (parts_bytes (λ c. c.code) (λ c is. is.code) set all) (parts_bytes (λ c. c.init) (λ c is. is.init) set all)
 
+-- 0xFF is a byte
 blank_bytes : (n : ℕ) → AreBytes (replicate n 255)
 blank_bytes n i =
     elim (cases_lt i n) [
@@ -54,11 +57,13 @@ blank_bytes n i =
       | inr past ↦ subst (λ (b : ℕ). b < 256) (sym (get_or_past (replicate {A = ℕ} n 255) i 0 (omega (arith, past, length-replicate {A = ℕ} n 255)))) (omega arith)
     ]
 
+-- padded bytes are bytes
 pub padded_bytes : (b : List ℕ) → AreBytes b → AreBytes (padded b)
 padded_bytes b bytes = append_bytes b (replicate (122880 - length b) 255) bytes (blank_bytes (122880 - length b))
 
 -- ---- No cause
 
+-- none of two
 none_both : {X : Type 0} (a b : Option X) → option_or a b ≡ None → (a ≡ None) × (b ≡ None)
 none_both None b e = (refl, e)
 none_both (Some x) b e = absurd cc
@@ -71,6 +76,7 @@ pub record NoCause (set : List Component) : Type 0 where
   pub duplicate : duplicate_cause set ≡ None
   pub sites : sites_cause set ≡ None
 
+-- where there is no cause, there is none of any kind
 pub no_cause : (set : List Component) → link_cause set ≡ None → NoCause set
 unfolding link_cause
 no_cause set e =
@@ -80,18 +86,22 @@ no_cause set e =
     let d = none_both (duplicate_cause set) (sites_cause set) c.1 in
     record { room = a.0; symbols = b.0; relocations = c.0; duplicate = d.0; sites = d.1 }
 
+-- where there is no first cause, there is none at any relocation
 no_first : (f : Site → Option Cause) (xs : List Site) → first_cause f xs ≡ None → AllByRecursion (λ x. f x ≡ None) xs
 no_first f [] e = tt
 no_first f (x ∷ xs) e = let both = none_both (f x) (first_cause f xs) e in (both.0, no_first f xs both.1)
 
+-- a mapped none
 map_none : {X Y : Type 0} (f : X → Y) (o : Option X) → option_map f o ≡ None → o ≡ None
 map_none f None e = refl
 map_none f (Some x) e = absurd cc
 
+-- where there is no fault at a relocation, its field can hold the value
 range_none : (set : List Component) (x : Site) (o : Option ℕ) → range_cause set x o ≡ None → fault_of x.reloc.kind (pos (unwrap_or o 0) +ℤ x.reloc.addend) (pos (place_of_site set x)) ≡ None
 range_none set x None e = absurd cc
 range_none set x (Some s) e = map_none _ (fault_of x.reloc.kind (pos s +ℤ x.reloc.addend) (pos (place_of_site set x))) e
 
+-- so can those of many
 can_be_put : (set : List Component) (xs : List Site) → AllByRecursion (IsSite set) xs → AllByRecursion (λ x. site_cause set x ≡ None) xs → AllByRecursion (CanBePut (length (plain_of set))) (map (fixup_of set) xs)
 can_be_put set [] are none = tt
 can_be_put set (x ∷ xs) are none = (record { room = site_inside set x are.0; possible = range_none set x (target_of set x) none.0 }, can_be_put set xs are.1 none.1)
@@ -115,6 +125,7 @@ image_one set a b p q = ArePut-same (fixups_of set) (plain_of set) a b p.bytes q
 
 -- ---- Pages of any list
 
+-- a field and those that begin behind it share no byte
 later_apart : (x : Fixup) (low : ℕ) (ys : List Fixup) → end_of x ≤ low → FieldsRise low ys → AllByRecursion (AreApart x) ys
 later_apart x low [] le rise = tt
 later_apart x low (y ∷ ys) le rise = (inr (omega (arith, le, rise.0)), later_apart x (end_of y) ys (omega (arith, le, rise.0)) rise.1)
@@ -124,6 +135,7 @@ pub rise_apart : (low : ℕ) (xs : List Fixup) → FieldsRise low xs → PairsAp
 rise_apart low [] rise = tt
 rise_apart low (x ∷ xs) rise = (later_apart x (end_of x) xs (omega arith) rise.1, rise_apart (end_of x) xs rise.1)
 
+-- fields that fit an image fit its pages
 fit_padded : (plain : List ℕ) (xs : List Fixup) → AllByRecursion (IsFitting (length plain)) xs → AllByRecursion (CanBePut (length (padded plain))) xs
 fit_padded plain [] fit = tt
 fit_padded plain (x ∷ xs) fit = (record { room = omega (arith, fit.0.room, length-append plain (replicate {A = ℕ} (122880 - length plain) 255)); possible = fit.0.possible }, fit_padded plain xs fit.1)
@@ -141,13 +153,16 @@ pages_one set xs p q a b = a.are ∙ ap cut (ArePut-same xs (padded (plain_of se
 
 -- ---- A set's own list
 
+-- a set's list rises, whatever the table
 pub rises : (set : List Component) (table : List MergedSymbol) → IsSet set → FieldsRise 0 (listed set table)
 rises set table is = listed_rises _ set (all_at_place set) (in_order set is.components)
 
+-- a list that is not too long is a relocation list
 pub list_has_room : (set : List Component) (table : List MergedSymbol) → IsSet set → room_cause (rooms_of set) ≡ None → AllByRecursion IsSymbol table → length (listed set table) ≤ 8192
     → Lists (list_bytes (listed set table)) (listed set table)
 list_has_room set table is none symbols few = record { few = few; entries = entries_have_room set table is.components (room_from_cause (rooms_of set) none) symbols; rise = rises set table is; spelled = refl }
 
+-- image order keeps the length
 ordered_length : (xs : List Site) → length (in_image_order xs) ≡ length xs
 ordered_length xs =
     omega (
@@ -156,25 +171,31 @@ ordered_length xs =
       length-filter_both {X = Site} (λ x. x.reloc.in_init) (λ x. not x.reloc.in_init) (λ x. refl) xs,
     )
 
+-- no cause above a limit
 not_above : (limit : ℕ) (f : ℕ → Cause) (n : ℕ) (b : Bool) → nat_lt limit n ≡ b → above limit f n ≡ None → n ≤ limit
 not_above limit f n true e none = absurd (let g = rw e at none in cc)
 not_above limit f n false e none = ltb-false limit n e
 
+-- a set without a cause has not too many relocations
 few_sites : (set : List Component) → relocations_cause set ≡ None → length (sites_of set) ≤ 8192
 few_sites set e = not_above 8192 Relocations (length (sites_of set)) _ refl e
 
+-- a set's own list is a relocation list
 pub own_list : (set : List Component) (table : List MergedSymbol) → IsSet set → link_cause set ≡ None → IsTableOf set table → Lists (list_bytes (listed set table)) (listed set table)
 own_list set table is none t =
     let no = no_cause set none in
     list_has_room set table is no.room (table_has_room set table is no.room t) (omega (arith, few_sites set no.relocations, ordered_length (sites_of set), length-map (in_image_order (sites_of set)) (fixup_with (address_in table) set)))
 
+-- a field that can be put fits
 fits : (n : ℕ) (x : Fixup) → CanBePut n x → IsFitting n x
 fits n x can = record { room = can.room; possible = can.possible }
 
+-- what follows of each follows of all
 all_weaker : {X : Type 0} (P Q : X → Type 0) → ((x : X) → P x → Q x) → (xs : List X) → AllByRecursion P xs → AllByRecursion Q xs
 all_weaker P Q each [] all = tt
 all_weaker P Q each (x ∷ xs) all = (each x all.0, all_weaker P Q each xs all.1)
 
+-- a set's own list fits the set
 pub own_list_fits : (set : List Component) (table : List MergedSymbol) → IsSet set → link_cause set ≡ None → IsTableOf set table → AllByRecursion (IsFitting (length (plain_of set))) (listed set table)
 own_list_fits set table is none t =
     let can = fields_can_be_put set is.components (no_cause set none).sites in

@@ -1,4 +1,4 @@
-use Rattle.std.proofs.Common.{◌≡◌, List, sym, subst}
+use Rattle.std.proofs.Common.{List, sym, subst}
 use Rattle.component_package.specs.Component.{Component}
 use Rattle.link_laws.specs.Sets.{IsSet}
 use Rattle.full_linker.proofs.Views.{is_set}

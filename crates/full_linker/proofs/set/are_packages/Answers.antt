@@ -1,4 +1,4 @@
-use Rattle.std.proofs.Common.{◌≡◌, ◌+◌, refl, List, ℕ, None, sym, subst, take, get_or, arith, length, ◌≤◌}
+use Rattle.std.proofs.Common.{◌≡◌, refl, List, ℕ, None, sym, subst, take, get_or}
 use Rattle.std.specs.List.{All}
 use Rattle.std.proofs.lemmas.List.{take_more, take_all}
 use Rattle.std.proofs.lemmas.List.Elements.{All-push}

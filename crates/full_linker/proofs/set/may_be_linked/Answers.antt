@@ -1,4 +1,4 @@
-use Rattle.std.proofs.Common.{◌≡◌, List, ℕ, map, sym, ap, ◌∙◌, subst, arith}
+use Rattle.std.proofs.Common.{List, ℕ, map, sym, ap, ◌∙◌, subst, arith}
 use Rattle.component_package.specs.Component.{Component}
 use Rattle.component_package.specs.Manifest.{AreDistinct}
 use Rattle.full_linker.proofs.Views.{numbers}
