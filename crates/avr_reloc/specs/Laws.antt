@@ -3,9 +3,10 @@ use Rattle.std.specs.Prelude.{◌≡◌, ◌↔◌, ℕ, ℤ, Some, List, length
 use Rattle.std.specs.List.{All, AllPairs}
 use Rattle.avr_reloc.specs.declared.kind.RelocType.{RelocType}
 use Rattle.avr_reloc.specs.declared.kind.Shape.{Shape}
+use Rattle.avr_reloc.specs.declared.patch.Patch.{Patch}
 use Rattle.avr_reloc.specs.declared.fixup.Fixup.{Fixup}
 use Rattle.avr_reloc.specs.Kind.{kind_of, number_of, shape_of, width_of}
-use Rattle.avr_reloc.specs.Field.{AreBytes, keep_of, masked, reading_of, HasZeroValue, FieldHolds}
+use Rattle.avr_reloc.specs.Field.{AreBytes, keep_of, masked, patched, reading_of, HasZeroValue, FieldHolds, GivesField}
 use Rattle.avr_reloc.specs.Fixups.{AreApart, CanBePut, ArePut}
 
 -- ---- Numbers
@@ -27,6 +28,12 @@ abbrev pub FieldIsDetermined : Type 0
 FieldIsDetermined =
     (t : RelocType) (x place : ℤ) (q e f : List ℕ) → AreBytes e → AreBytes f
     → FieldHolds t x place q e → FieldHolds t x place q f → e ≡ f
+
+-- a patch over an older patch of the same field leaves nothing of it
+abbrev pub OlderIsAbsorbed : Type 0
+OlderIsAbsorbed =
+    (t : RelocType) (older newer place : ℤ) (p : Patch) (q f : List ℕ) → AreBytes f → GivesField t newer place p
+    → FieldHolds t older place q f → FieldHolds t newer place q (patched p.keep p.set f)
 
 -- clearing the value bits of a patched field gives the package's bytes, whose value bits are 0
 abbrev pub ClearingRestores : Type 0

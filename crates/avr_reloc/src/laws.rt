@@ -1,6 +1,7 @@
 //! Laws about the definitions alone. Each function does nothing, and its contract is the law.
 
-ghost use Rattle.avr_reloc.specs.Laws.{NumbersMatch, ReadingDetermines, FieldIsDetermined, ClearingRestores, PutIsDetermined, PutExists};
+ghost use Rattle.avr_reloc.specs.Laws.{NumbersMatch, ReadingDetermines, FieldIsDetermined, OlderIsAbsorbed};
+ghost use Rattle.avr_reloc.specs.Laws.{ClearingRestores, PutIsDetermined, PutExists};
 
 /// A number is a type's exactly where the type is the number's.
 pub fn numbers_match()
@@ -15,6 +16,11 @@ pub fn reading_determines()
 /// A value, and the package's bytes of a field, determine the bytes of the patched field.
 pub fn field_is_determined()
     ensures { FieldIsDetermined }
+{}
+
+/// A field may be patched again with another value: a patch needs no clean field.
+pub fn older_is_absorbed()
+    ensures { OlderIsAbsorbed }
 {}
 
 /// A patched field whose value bits are cleared has the package's bytes again, if the value bits

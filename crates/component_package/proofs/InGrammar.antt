@@ -1,8 +1,8 @@
 -- What faultless bytes say is a component of the grammar.
-use Rattle.std.proofs.Common.{◌≡◌, ◌⊎◌, ℕ, zero, suc, ◌+◌, ◌-◌, ◌*◌, ◌%◌, ◌<◌, ◌≤◌, Bool, true, false, cond, eqb, Option, Some, None, List, [], ◌∷◌, ◌++◌, length, get_or, replicate, refl, sym, ap, subst, ◌∙◌, inl, inr, arith, slice_range}
-use Rattle.std.specs.Prelude.{not, ◌||◌, ◌&&◌, nat_le, nat_lt, bit_and, IsTrue, FitsSigned}
-use Rattle.std.specs.List.{list_all, AllByRecursion}
-use Rattle.std.specs.Int.{w16, cast_signed}
+use Rattle.std.proofs.Common.{◌≡◌, ◌⊎◌, ℕ, zero, suc, ◌+◌, ◌-◌, ◌*◌, ◌%◌, ◌<◌, ◌≤◌, Bool, true, false, cond, eqb, None, List, [], ◌∷◌, ◌++◌, length, get_or, replicate, refl, sym, ap, subst, ◌∙◌, inl, inr, arith, slice_range}
+use Rattle.std.specs.Prelude.{not, ◌||◌, ◌&&◌, nat_le, bit_and, IsTrue}
+use Rattle.std.specs.List.{list_all}
+use Rattle.std.specs.Int.{w16}
 use Rattle.std.proofs.Math.Facts.{sfits_to_z}
 use Rattle.std.proofs.lemmas.Bool.{and_parts, or_cases, leb-true, ltb-true, eqb-true}
 use Rattle.std.proofs.lemmas.Grind.{same_number_lists}
@@ -11,17 +11,16 @@ use Rattle.avr_reloc.specs.declared.kind.Shape.{Shape}
 use Rattle.avr_reloc.specs.declared.kind.Shape.TheVariants as shapes
 use Rattle.avr_reloc.specs.Field.{AreBytes, HasZeroValue, masked}
 use Rattle.avr_reloc.proofs.Fixups.{AreBytes-slice, length-field, get_or-slice}
-use Rattle.component_package.specs.declared.part.Place.{Place}
 use Rattle.component_package.specs.declared.part.Export.{Export}
 use Rattle.component_package.specs.declared.part.Header.{Header}
 use Rattle.component_package.specs.declared.part.Reloc.{Reloc}
 use Rattle.component_package.specs.Numbers.{u16_at}
-use Rattle.component_package.specs.Component.{Component, spelling}
-use Rattle.component_package.specs.Reading.{header_of, exports_at, relocs_at, total_of, length_of, is_above, export_of, raw_export, symbol_before, export_fault, reloc_width, reloc_end, is_inside, is_aligned, begins_after, is_behind, has_target, is_clear, field_at, reloc_of, raw_reloc, reloc_before, raw_field, reloc_fault, package_fault, component_of, header_of_component}
+use Rattle.component_package.specs.Component.{Component}
+use Rattle.component_package.specs.Reading.{header_of, exports_at, relocs_at, export_of, raw_export, symbol_before, reloc_width, reloc_end, is_inside, field_at, reloc_of, raw_reloc, reloc_before, raw_field, package_fault, component_of}
 use Rattle.component_package.specs.Grammar.{IsExport, ExportsRise, part_of_reloc, IsReloc, position_in, RelocsRise, IsComponent, Spells}
-use Rattle.component_package.proofs.Lists.{Rises, rises_list, free_at, all_of_list}
+use Rattle.component_package.proofs.Lists.{is_zero, all_zeros, Rises, rises_list, free_at, all_of_list}
 use Rattle.component_package.proofs.HeaderLemmas.{parts_have_lengths}
-use Rattle.component_package.proofs.Spelled.{IsGoodExport, good_export, IsGoodReloc, good_reloc, IsFaultless, faultless, spelled}
+use Rattle.component_package.proofs.Spelled.{good_export, IsGoodReloc, good_reloc, IsFaultless, faultless, spelled}
 
 -- ---- numbers and slices
 
@@ -30,7 +29,8 @@ u16_fits : (b : List ℕ) (at : ℕ) → AreBytes b → u16_at b at < 65536
 u16_fits b at bytes = omega (arith, bytes at, bytes (at + 1))
 
 -- a slice of a slice
-pub slice_slice : (b : List ℕ) (low w i n : ℕ) → low + w ≤ length b → i + n ≤ w → slice_range (slice_range b low (low + w)) i (i + n) ≡ slice_range b (low + i) (low + i + n)
+pub slice_slice : (b : List ℕ) (low w i n : ℕ) → low + w ≤ length b → i + n ≤ w
+    → slice_range (slice_range b low (low + w)) i (i + n) ≡ slice_range b (low + i) (low + i + n)
 slice_slice b low w i n within inside =
     let outer = length-field b low w within in
     let inner : length (slice_range (slice_range b low (low + w)) i (i + n)) ≡ n = length-field (slice_range b low (low + w)) i n (omega arith) in
@@ -41,10 +41,6 @@ slice_slice b low w i n within inside =
 
 -- ---- value bits
 
--- a byte is 0
-abbrev pub is_zero : ℕ → Bool
-is_zero x = eqb x 0
-
 -- what is clear with more bytes behind is clear
 clear_front : (q more mask : List ℕ) → list_all is_zero (masked (q ++ more) mask) ≡ true → list_all is_zero (masked q mask) ≡ true
 clear_front [] more mask e = refl
@@ -53,15 +49,7 @@ clear_front (x ∷ q) more (m ∷ mask) e =
     let both = and_parts (is_zero (bit_and x m)) (list_all is_zero (masked (q ++ more) mask)) e in
     rw both.0 (clear_front q more mask both.1)
 
--- bytes that are all zeros
-zeros : (xs : List ℕ) → list_all is_zero xs ≡ true → xs ≡ replicate (length xs) 0
-zeros [] e = refl
-zeros (x ∷ xs) e =
-    let both = and_parts (is_zero x) (list_all is_zero xs) e in
-    let here = eqb-true x 0 both.0 in
-    let rest = zeros xs both.1 in
-    ap (λ y. y ∷ xs) here ∙ ap (λ (ys : List ℕ). 0 ∷ ys) rest
-
+-- a field under its mask keeps its length
 length-masked : (q mask : List ℕ) → length q ≤ length mask → length (masked q mask) ≡ length q
 length-masked [] mask le = refl
 length-masked (x ∷ q) [] le = absurd (omega arith)
@@ -73,6 +61,7 @@ pub record IsWidth (s : Shape) : Type 0 where
   pub four : width_of s ≤ 4
   pub mask : length (mask_of s) ≡ 4
 
+-- so it is of each shape
 pub widths : (s : Shape) → IsWidth s
 widths shapes.Byte = record { some = omega arith; four = omega arith; mask = refl }
 widths shapes.Word = record { some = omega arith; four = omega arith; mask = refl }
@@ -89,20 +78,24 @@ zero_value : (s : Shape) (q more : List ℕ) → length q ≡ width_of s → lis
 zero_value s q more wide e =
     let w = widths s in
     let long = length-masked q (mask_of s) (omega (arith, w.four, w.mask, wide)) in
-    zeros (masked q (mask_of s)) (clear_front q more (mask_of s) e) ∙ ap (λ n. replicate n 0) (long ∙ wide)
+    all_zeros (masked q (mask_of s)) (clear_front q more (mask_of s) e) ∙ ap (λ n. replicate n 0) (long ∙ wide)
 
 -- ---- tests that came out true
 
+-- a test that is wanted only where x holds
 if_set : (x y : Bool) → (not x || y) ≡ true → IsTrue x → y ≡ true
 if_set true y e set = e
 if_set false y e set = absurd cc
 
+-- an offset that is wanted even where x holds
 aligned_says : (x : Bool) (n : ℕ) → (not x || eqb (n % 2) 0) ≡ true → IsTrue x → n % 2 ≡ 0
 aligned_says x n e set = eqb-true (n % 2) 0 (if_set x (eqb (n % 2) 0) e set)
 
+-- a target is low or a symbol
 target_says : (t : ℕ) (weak : Bool) → (nat_le 16 t || (nat_le t 10 && not weak)) ≡ true → (t ≤ 10) ⊎ (16 ≤ t)
 target_says t weak e = elim (or_cases _ _ e) [ inl high ↦ inr (leb-true 16 t high) | inr low ↦ inl (leb-true t 10 (and_parts _ _ low).0) ]
 
+-- a weak target is a symbol
 weak_says : (t : ℕ) (weak : Bool) → (nat_le 16 t || (nat_le t 10 && not weak)) ≡ true → IsTrue weak → 16 ≤ t
 weak_says t false e set = absurd cc
 weak_says t true e set = elim (or_cases _ _ e) [ inl high ↦ leb-true 16 t high | inr low ↦ (let off : false ≡ true = (and_parts (nat_le t 10) false low).1 in absurd cc) ]
@@ -114,6 +107,7 @@ exports_rise : (low : ℕ) (es : List Export) → Rises (λ e. e.symbol) (λ e. 
 exports_rise low [] rise = tt
 exports_rise low (e ∷ es) rise = (rise.0, exports_rise (e.symbol + 1) es rise.1)
 
+-- and so do relocations
 relocs_rise : (c : Component) (low : ℕ) (rs : List Reloc) → Rises (position_in c) (λ r. position_in c r + reloc_width r) low rs → RelocsRise c low rs
 relocs_rise c low [] rise = tt
 relocs_rise c low (r ∷ rs) rise = (rise.0, relocs_rise c (position_in c r + reloc_width r) rs rise.1)
@@ -128,10 +122,12 @@ behind_by_numbers false false code init a w b inside e = let le = leb-true (a + 
 
 -- ---- exports and relocations
 
+-- the length of the part that p names
 by_case : (p : Bool) (c : Component) → length (cond p c.init c.code) ≡ cond p (length c.init) (length c.code)
 by_case true c = refl
 by_case false c = refl
 
+-- the length of the part that a relocation stands in
 pub length_of_part : (c : Component) (r : Reloc) → length (part_of_reloc c r) ≡ cond r.in_init (length c.init) (length c.code)
 length_of_part c r = by_case r.in_init c
 

@@ -7,15 +7,14 @@ use Rattle.std.proofs.lemmas.List.{get_or-take, drop-take, take-take}
 use Rattle.component_package.specs.declared.part.Header.{Header}
 use Rattle.component_package.specs.declared.fault.PackageFault.{PackageFault}
 use Rattle.component_package.specs.declared.fault.PackageFault.TheVariants.{Short, Magic, Reserved, Parity, Length}
-use Rattle.component_package.specs.Component.{Component, spelling}
-use Rattle.component_package.specs.Reading.{first_fault, header_of, header_fault, has_magic, has_even_lengths, has_its_length, export_fault, exports_fault, reloc_fault, package_fault, component_of}
-use Rattle.component_package.specs.Grammar.{Spells}
+use Rattle.component_package.specs.Reading.{first_fault, header_of, header_fault, has_magic, has_even_lengths, has_its_length, export_fault, exports_fault, reloc_fault, package_fault}
 use Rattle.component_package.specs.Laws.{FaultlessBytesSpell, SpellingIsOne, StepsFindTheFault, export_step, reloc_step, fault_by_steps}
 use Rattle.component_package.proofs.First.{first_fault-same}
 use Rattle.component_package.proofs.InGrammar.{spells}
 use Rattle.component_package.proofs.ReadAgain.{spelling_faultless, spelling_said}
 use Rattle.component_package.proofs.Steps.{export_said, reloc_said, reloc_step_is}
 
+-- bytes without a fault are those that spell a component
 pub faultless_bytes_spell : FaultlessBytesSpell
 faultless_bytes_spell = record {
   spells = spells;
@@ -23,6 +22,7 @@ faultless_bytes_spell = record {
   said = λ b c s. rw s.bytes (spelling_said c s.component);
 }
 
+-- one component, one spelling
 pub spelling_is_one : SpellingIsOne
 spelling_is_one = record {
   bytes = λ b d c s t. s.bytes ∙ sym t.bytes;
@@ -51,6 +51,7 @@ header_in_front b =
       get_or-take 32 b 17 0 (omega arith),
     ) refl
 
+-- and so do the four bytes of the magic
 magic_in_front : (b : List ℕ) → has_magic (take 32 b) ≡ has_magic b
 magic_in_front b = rw (get_or-take 32 b 0 0 (omega arith), get_or-take 32 b 1 0 (omega arith), get_or-take 32 b 2 0 (omega arith), get_or-take 32 b 3 0 (omega arith)) refl
 
@@ -81,6 +82,7 @@ steps_find b =
     ∙ ap (λ (o : Option PackageFault). option_or (header_fault b (length b)) (option_or o (first_fault (reloc_step (header_of b) b) (header_of b).relocs))) exports
     ∙ ap (λ (o : Option PackageFault). option_or (header_fault b (length b)) (option_or (exports_fault b) o)) relocs
 
+-- reading piece by piece finds the fault of the whole
 pub steps_find_the_fault : StepsFindTheFault
 steps_find_the_fault = record {
   fault = steps_find;

@@ -1,4 +1,6 @@
 pub mod Unique
+pub mod Examples
+mod MachineExamples
 pub mod First
 pub mod Lists
 pub mod HeaderLemmas
@@ -6,6 +8,7 @@ pub mod Steps
 pub mod Spelled
 pub mod InGrammar
 pub mod ReadAgain
+pub mod ManifestLemmas
 pub mod Laws
-pub mod Examples
-mod MachineExamples
+pub mod StoredLemmas
+pub mod ManifestLaws

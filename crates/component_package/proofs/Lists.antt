@@ -1,8 +1,9 @@
 -- Lists of entries, and lists that rise.
-use Rattle.std.proofs.Common.{◌≡◌, ℕ, zero, suc, ◌+◌, ◌-◌, ◌*◌, ◌<◌, ◌≤◌, Option, Some, None, List, [], ◌∷◌, ◌++◌, length, drop, get_or, map, refl, sym, ap, subst, ◌∙◌, arith, slice_range, length-append, length-drop, append_assoc, add-one}
-use Rattle.std.specs.Prelude.{slice_get}
-use Rattle.std.specs.List.{flat_map, range_with_len, AllByRecursion}
-use Rattle.std.proofs.lemmas.List.{append-nil, take_at, drop_at, length-take}
+use Rattle.std.proofs.Common.{◌≡◌, ℕ, zero, suc, ◌+◌, ◌-◌, ◌*◌, ◌<◌, ◌≤◌, true, eqb, Some, List, [], ◌∷◌, ◌++◌, length, drop, get_or, map, replicate, refl, sym, ap, subst, ◌∙◌, arith, slice_range, length-append, append_assoc, add-one}
+use Rattle.std.specs.Prelude.{slice_get, Bool}
+use Rattle.std.specs.List.{flat_map, range_with_len, list_all, AllByRecursion}
+use Rattle.std.proofs.lemmas.List.{append-nil, take_at, drop_at}
+use Rattle.std.proofs.lemmas.Bool.{and_parts, eqb-true}
 use Rattle.std.proofs.lemmas.List.Folds.{drop_split}
 use Rattle.std.proofs.lemmas.List.FromFn.{map-range_with_len_more, fill_by_all, length-map-range_with_len, get_or-map-range_with_len}
 use Rattle.std.proofs.lemmas.Grind.{flat_map-append}
@@ -15,6 +16,7 @@ use Rattle.component_package.specs.Reading.{list_of}
 pub list_of_more : {X : Type 0} (f : ℕ → X) (n : ℕ) → list_of f (suc n) ≡ list_of f n ++ f n ∷ []
 list_of_more f n = subst (λ (m : ℕ). list_of f m ≡ list_of f n ++ f n ∷ []) (add-one n) (map-range_with_len_more f 0 n n (omega arith))
 
+-- there are n of them
 pub length-list_of : {X : Type 0} (f : ℕ → X) (n : ℕ) → length (list_of f n) ≡ n
 length-list_of f n = length-map-range_with_len f 0 n
 
@@ -55,7 +57,8 @@ all_at P (y ∷ ys) (suc i) x all here = all_at P ys i x all.1 here
 -- ---- entries of one width
 
 -- entries that are each the bytes at their places are all the bytes there
-pub entries : {X : Type 0} (write : X → List ℕ) (f : ℕ → X) (b : List ℕ) (at w n : ℕ) → ((i : ℕ) → i < n → write (f i) ≡ slice_range b (at + w * i) (at + w * i + w))
+pub entries : {X : Type 0} (write : X → List ℕ) (f : ℕ → X) (b : List ℕ) (at w n : ℕ)
+    → ((i : ℕ) → i < n → write (f i) ≡ slice_range b (at + w * i) (at + w * i + w))
     → drop at b ≡ flat_map write (list_of f n) ++ drop (at + w * n) b
 entries write f b at w zero each = ap (λ k. drop k b) (omega arith)
 entries write f b at w (suc n) each =
@@ -70,7 +73,8 @@ entries write f b at w (suc n) each =
     ∙ ap (λ (k : ℕ). flat_map write (list_of f (suc n)) ++ drop k b) next
 
 -- the bytes of an entry among entries of one width
-pub entry_in : {X : Type 0} (write : X → List ℕ) (w : ℕ) → ((x : X) → length (write x) ≡ w) → (xs : List X) (front back : List ℕ) (i : ℕ) (x : X) → slice_get xs i ≡ Some x
+pub entry_in : {X : Type 0} (write : X → List ℕ) (w : ℕ) → ((x : X) → length (write x) ≡ w) → (xs : List X) (front back : List ℕ) (i : ℕ) (x : X)
+    → slice_get xs i ≡ Some x
     → slice_range (front ++ (flat_map write xs ++ back)) (length front + w * i) (length front + w * i + w) ≡ write x
 entry_in write w wide [] front back i x here = absurd cc
 entry_in write w wide (y ∷ ys) front back zero x here =
@@ -103,11 +107,14 @@ abbrev pub free_from : {X : Type 0} → (X → ℕ) → ℕ → List X → ℕ
 free_from finish low [] = low
 free_from finish low (x ∷ xs) = free_from finish (finish x) xs
 
+-- behind one more element
 free_from-more : {X : Type 0} (finish : X → ℕ) (low : ℕ) (xs : List X) (x : X) → free_from finish low (xs ++ x ∷ []) ≡ finish x
 free_from-more finish low [] x = refl
 free_from-more finish low (y ∷ ys) x = free_from-more finish (finish y) ys x
 
-rises_more : {X : Type 0} (begin finish : X → ℕ) (low : ℕ) (xs : List X) (x : X) → Rises begin finish low xs → free_from finish low xs ≤ begin x → Rises begin finish low (xs ++ x ∷ [])
+-- one more element that begins where it may
+rises_more : {X : Type 0} (begin finish : X → ℕ) (low : ℕ) (xs : List X) (x : X) → Rises begin finish low xs → free_from finish low xs ≤ begin x
+    → Rises begin finish low (xs ++ x ∷ [])
 rises_more begin finish low [] x rise here = (here, tt)
 rises_more begin finish low (y ∷ ys) x rise here = (rise.0, rises_more begin finish (finish y) ys x rise.1 here)
 
@@ -116,12 +123,14 @@ abbrev pub free_at : {X : Type 0} → (X → ℕ) → ℕ → (ℕ → X) → �
 free_at finish low f zero = low
 free_at finish low f (suc i) = finish (f i)
 
+-- the two bounds are the same
 free_from-list_of : {X : Type 0} (finish : X → ℕ) (low : ℕ) (f : ℕ → X) (n : ℕ) → free_from finish low (list_of f n) ≡ free_at finish low f n
 free_from-list_of finish low f zero = refl
 free_from-list_of finish low f (suc n) = ap (free_from finish low) (list_of_more f n) ∙ free_from-more finish low (list_of f n) (f n)
 
 -- a list rises whose elements each begin where they may
-pub rises_list : {X : Type 0} (begin finish : X → ℕ) (low : ℕ) (f : ℕ → X) (n : ℕ) → ((i : ℕ) → i < n → free_at finish low f i ≤ begin (f i)) → Rises begin finish low (list_of f n)
+pub rises_list : {X : Type 0} (begin finish : X → ℕ) (low : ℕ) (f : ℕ → X) (n : ℕ) → ((i : ℕ) → i < n → free_at finish low f i ≤ begin (f i))
+    → Rises begin finish low (list_of f n)
 rises_list begin finish low f zero each = tt
 rises_list begin finish low f (suc n) each =
     let here : free_from finish low (list_of f n) ≤ begin (f n) = rw (free_from-list_of finish low f n) (each n (omega arith)) in
@@ -132,7 +141,9 @@ pub rises_first : {X : Type 0} (begin finish : X → ℕ) (low : ℕ) (xs : List
 rises_first begin finish low [] x rise here = absurd cc
 rises_first {X} begin finish low (y ∷ ys) x rise here = let same : y ≡ x = cc in subst (λ (z : X). low ≤ begin z) same rise.0
 
-pub rises_next : {X : Type 0} (begin finish : X → ℕ) (low : ℕ) (xs : List X) (i : ℕ) (x y : X) → Rises begin finish low xs → slice_get xs i ≡ Some x → slice_get xs (suc i) ≡ Some y → finish x ≤ begin y
+-- an element ends where the next one begins, or before
+pub rises_next : {X : Type 0} (begin finish : X → ℕ) (low : ℕ) (xs : List X) (i : ℕ) (x y : X) → Rises begin finish low xs → slice_get xs i ≡ Some x
+    → slice_get xs (suc i) ≡ Some y → finish x ≤ begin y
 rises_next begin finish low [] i x y rise here next = absurd cc
 rises_next {X} begin finish low (z ∷ zs) zero x y rise here next =
     let same : z ≡ x = cc in
@@ -140,9 +151,25 @@ rises_next {X} begin finish low (z ∷ zs) zero x y rise here next =
 rises_next begin finish low (z ∷ zs) (suc i) x y rise here next = rises_next begin finish (finish z) zs i x y rise.1 here next
 
 -- every element of a list that rises begins at its low bound or above
-pub rises_above : {X : Type 0} (begin finish : X → ℕ) → ((x : X) → begin x ≤ finish x) → (low : ℕ) (xs : List X) (i : ℕ) (x : X) → Rises begin finish low xs → slice_get xs i ≡ Some x → low ≤ begin x
+pub rises_above : {X : Type 0} (begin finish : X → ℕ) → ((x : X) → begin x ≤ finish x) → (low : ℕ) (xs : List X) (i : ℕ) (x : X)
+    → Rises begin finish low xs → slice_get xs i ≡ Some x → low ≤ begin x
 rises_above begin finish up low [] i x rise here = absurd cc
 rises_above begin finish up low (y ∷ ys) zero x rise here = rises_first begin finish low (y ∷ ys) x rise here
 rises_above begin finish up low (y ∷ ys) (suc i) x rise here =
     let above = rises_above begin finish up (finish y) ys i x rise.1 here in
     omega (arith, rise.0, up y, above)
+
+-- ---- zeros
+
+-- a byte is 0
+abbrev pub is_zero : ℕ → Bool
+is_zero x = eqb x 0
+
+-- bytes that are all zeros
+pub all_zeros : (xs : List ℕ) → list_all is_zero xs ≡ true → xs ≡ replicate (length xs) 0
+all_zeros [] e = refl
+all_zeros (x ∷ xs) e =
+    let both = and_parts (is_zero x) (list_all is_zero xs) e in
+    let here = eqb-true x 0 both.0 in
+    let rest = all_zeros xs both.1 in
+    ap (λ y. y ∷ xs) here ∙ ap (λ (ys : List ℕ). 0 ∷ ys) rest

@@ -1,36 +1,36 @@
 -- What is spelled is read again.
-use Rattle.std.proofs.Common.{◌≡◌, ◌⊎◌, ℕ, zero, suc, ◌+◌, ◌-◌, ◌*◌, ◌/◌, ◌%◌, ◌<◌, ◌≤◌, Bool, true, false, cond, eqb, Option, Some, None, Ok, Err, List, [], ◌∷◌, ◌++◌, length, get_or, replicate, refl, sym, ap, subst, ◌∙◌, inl, inr, arith, slice_range, length-append, append_assoc}
+use Rattle.std.proofs.Common.{◌≡◌, ◌⊎◌, ℕ, zero, suc, ◌+◌, ◌-◌, ◌*◌, ◌/◌, ◌%◌, ◌<◌, ◌≤◌, Bool, true, false, cond, eqb, Option, Some, None, Ok, Err, List, [], ◌∷◌, ◌++◌, length, get_or, replicate, refl, sym, ap, ◌∙◌, inl, inr, arith, slice_range, length-append, append_assoc}
 use Rattle.std.specs.Prelude.{slice_get, not, ◌||◌, ◌&&◌, nat_le, nat_lt, bit_and, IsTrue, FitsSigned}
 use Rattle.std.specs.List.{flat_map, list_all}
 use Rattle.std.specs.Result.{result_err}
-use Rattle.std.specs.Int.{w16, cast_signed, cast_unsigned}
+use Rattle.std.specs.Int.{w16, cast_unsigned}
 use Rattle.std.proofs.lemmas.Int.{to_z-of_z}
 use Rattle.std.proofs.lemmas.Nat.{and_le_l}
 use Rattle.std.proofs.lemmas.Bool.{le-leb, le-ltb, lt-ltb, eq-eqb, and_parts}
 use Rattle.std.proofs.lemmas.List.{append-nil, take_at, drop_at}
 use Rattle.std.proofs.lemmas.Option.{slice_get-get_or, slice_get_within}
 use Rattle.avr_reloc.specs.declared.kind.RelocType.{RelocType}
-use Rattle.avr_reloc.specs.Kind.{kind_of, number_of, shape_of, width_of, mask_of, is_instruction}
-use Rattle.avr_reloc.specs.Field.{masked, HasZeroValue}
+use Rattle.avr_reloc.specs.Kind.{shape_of, mask_of, is_instruction}
+use Rattle.avr_reloc.specs.Field.{masked}
 use Rattle.avr_reloc.proofs.Numbers.{kind_of-number}
 use Rattle.component_package.specs.declared.part.Export.{Export}
 use Rattle.component_package.specs.declared.part.Reloc.{Reloc}
 use Rattle.component_package.specs.declared.part.Header.{Header}
 use Rattle.component_package.specs.declared.part.Place.{Place}
 use Rattle.component_package.specs.declared.part.Place.TheVariants as places
-use Rattle.component_package.specs.declared.fault.PackageFault.{PackageFault}
 use Rattle.component_package.specs.declared.fault.PackageFault.TheVariants.{RelocPlace, RelocOrder, Target, FieldNotZero}
 use Rattle.component_package.specs.Numbers.{u16_at}
 use Rattle.component_package.specs.Component.{Component, export_bytes, reloc_bytes, header_bytes, spelling, number_of_place}
-use Rattle.component_package.specs.Reading.{header_of, header_of_component, exports_at, relocs_at, total_of, header_fault, has_magic, is_blank, is_even, has_even_lengths, has_its_length, export_of, raw_export, first_fault, symbol_before, export_fault, exports_fault, check_export_of, is_above, length_of, place_of, reloc_width, reloc_end, has_place_byte, has_place, is_inside, is_aligned, is_behind, has_target, is_clear, reloc_with, reloc_in, check_reloc_of, reloc_of, raw_reloc, reloc_before, field_at, raw_field, reloc_fault, relocs_fault, package_fault, list_of, component_of}
-use Rattle.component_package.specs.Grammar.{IsExport, ExportsRise, part_of_reloc, IsReloc, position_in, RelocsRise, IsComponent, Spells}
+use Rattle.component_package.specs.Reading.{header_of, header_of_component, exports_at, relocs_at, total_of, header_fault, has_magic, is_blank, is_even, has_even_lengths, has_its_length, export_of, raw_export, first_fault, symbol_before, export_fault, check_export_of, is_above, length_of, place_of, reloc_width, reloc_end, has_place_byte, has_place, is_inside, is_aligned, is_behind, has_target, is_clear, reloc_with, reloc_in, check_reloc_of, reloc_of, raw_reloc, reloc_before, field_at, raw_field, reloc_fault, package_fault, list_of, component_of}
+use Rattle.component_package.specs.Grammar.{IsExport, ExportsRise, part_of_reloc, IsReloc, position_in, RelocsRise, IsComponent}
 use Rattle.component_package.proofs.First.{none_first}
-use Rattle.component_package.proofs.Lists.{entry_in, length-entries, list_of_entries, all_at, Rises, rises_next, rises_above}
-use Rattle.component_package.proofs.InGrammar.{is_zero, part_slice, length_of_part, widths}
+use Rattle.component_package.proofs.Lists.{is_zero, entry_in, length-entries, list_of_entries, all_at, Rises, rises_next, rises_above}
+use Rattle.component_package.proofs.InGrammar.{part_slice, length_of_part, widths}
 use Rattle.component_package.proofs.Steps.{faultless_parts}
 
 -- ---- the header
 
+-- a number is what its two bytes say
 two : (n : ℕ) → n % 256 + 256 * (n / 256) ≡ n
 two n = omega arith
 
@@ -50,12 +50,15 @@ length-spelling c =
     omega (arith, exports, relocs, tail, init, code, whole)
 
 -- a header with nothing wrong
-header_passes : (b : List ℕ) (n : ℕ) → nat_lt n 32 ≡ false → has_magic b ≡ true → is_blank b ≡ true → has_even_lengths (header_of b) ≡ true → has_its_length (header_of b) n ≡ true → header_fault b n ≡ None
+header_passes : (b : List ℕ) (n : ℕ) → nat_lt n 32 ≡ false → has_magic b ≡ true → is_blank b ≡ true → has_even_lengths (header_of b) ≡ true
+    → has_its_length (header_of b) n ≡ true → header_fault b n ≡ None
 header_passes b n short magic blank even size = rw (short, magic, blank, even, size) refl
 
+-- three even lengths pass their test
 even_passes : (a b c : ℕ) → a % 2 ≡ 0 → b % 2 ≡ 0 → c % 2 ≡ 0 → (is_even a && is_even b && is_even c) ≡ true
 even_passes a b c p q r = rw (p, q, r) refl
 
+-- a length that is the wanted one passes its test
 length_passes : (n m : ℕ) → n ≡ m → n ≤ 9984 → (eqb n m && nat_le n 9984) ≡ true
 length_passes n m same small = rw (eq-eqb n m same, le-leb n 9984 small) refl
 
@@ -65,10 +68,12 @@ header_sound c w =
     let long : 32 ≤ length (spelling c) = omega (arith, length-spelling c) in
     header_passes (spelling c) (length (spelling c)) (le-ltb (length (spelling c)) 32 long) refl refl
     (ap has_even_lengths (header_again c) ∙ even_passes (length c.code) (length c.init) c.bss w.even_code w.even_init w.even_bss)
-    (ap (λ (h : Header). has_its_length h (length (spelling c))) (header_again c) ∙ length_passes (length (spelling c)) (total_of (header_of_component c)) (length-spelling c) w.short)
+    (ap (λ (h : Header). has_its_length h (length (spelling c))) (header_again c)
+    ∙ length_passes (length (spelling c)) (total_of (header_of_component c)) (length-spelling c) w.short)
 
 -- ---- the parts
 
+-- the code of a spelling, and the data
 code_again : (c : Component) → slice_range (spelling c) 32 (32 + length c.code) ≡ c.code
 code_again c =
     let rest = c.init ++ (flat_map export_bytes c.exports ++ flat_map reloc_bytes c.relocs) in
@@ -88,8 +93,10 @@ raw_export_again c i e here =
     let front = header_bytes c ++ (c.code ++ c.init) in
     let back = flat_map reloc_bytes c.relocs in
     let rest = flat_map export_bytes c.exports ++ back in
-    let grouped : spelling c ≡ front ++ rest = ap (λ (x : List ℕ). header_bytes c ++ x) (sym (append_assoc c.code c.init rest)) ∙ sym (append_assoc (header_bytes c) (c.code ++ c.init) rest) in
-    let long : exports_at (header_of (spelling c)) ≡ length front = ap exports_at (header_again c) ∙ omega (arith, length-append (header_bytes c) (c.code ++ c.init), length-append c.code c.init) in
+    let grouped : spelling c ≡ front ++ rest = ap (λ (x : List ℕ). header_bytes c ++ x) (sym (append_assoc c.code c.init rest))
+    ∙ sym (append_assoc (header_bytes c) (c.code ++ c.init) rest) in
+    let long : exports_at (header_of (spelling c)) ≡ length front = ap exports_at (header_again c)
+    ∙ omega (arith, length-append (header_bytes c) (c.code ++ c.init), length-append c.code c.init) in
     ap (λ n. slice_range (spelling c) (n + 6 * i) (n + 6 * i + 6)) long
     ∙ ap (λ (x : List ℕ). slice_range x (length front + 6 * i) (length front + 6 * i + 6)) grouped
     ∙ entry_in export_bytes 6 (λ x. refl) c.exports front back i e here
@@ -113,10 +120,12 @@ raw_reloc_again c i r here =
 
 -- ---- exports
 
+-- the byte k says this place and weakness
 record IsPlaceByte (p : Place) (w : Bool) (k : ℕ) : Type 0 where
   pub place : place_of (k % 128) ≡ Some p
   pub weak : nat_le 128 k ≡ w
 
+-- the byte that an export spells says them
 place_again : (p : Place) (weak : Bool) → IsPlaceByte p weak (number_of_place p + cond weak 128 0)
 place_again places.Code false = record { place = refl; weak = refl }
 place_again places.Code true = record { place = refl; weak = refl }
@@ -151,7 +160,8 @@ symbol_above c w (suc i) e here =
     let former = get_or c.exports i e in
     let there : slice_get c.exports i ≡ Some former = slice_get-get_or c.exports i e (omega (arith, within)) in
     let rises = rises_next (λ (x : Export). x.symbol) (λ (x : Export). x.symbol + 1) 16 c.exports i former e (symbols_rise 16 c.exports w.export_order) there here in
-    let symbol : u16_at (raw_export (spelling c) i) 0 ≡ former.symbol = ap (λ (x : List ℕ). u16_at x 0) (raw_export_again c i former there) ∙ two former.symbol in
+    let symbol : u16_at (raw_export (spelling c) i) 0 ≡ former.symbol = ap (λ (x : List ℕ). u16_at x 0) (raw_export_again c i former there)
+    ∙ two former.symbol in
     ap (λ n. nat_lt n e.symbol) symbol ∙ lt-ltb former.symbol e.symbol (omega (arith, rises))
 
 -- nothing is wrong with export i
@@ -166,11 +176,13 @@ export_faultless c w i e here =
 
 -- ---- relocations
 
+-- the byte k says this part and weakness
 record IsPartByte (p : Bool) (w : Bool) (k : ℕ) : Type 0 where
   pub below : nat_lt (k % 128) 2 ≡ true
   pub part : eqb (k % 128) 1 ≡ p
   pub weak : nat_le 128 k ≡ w
 
+-- the byte that a relocation spells says them
 part_again : (p weak : Bool) → IsPartByte p weak (cond p 1 0 + cond weak 128 0)
 part_again false false = record { below = refl; part = refl; weak = refl }
 part_again false true = record { below = refl; part = refl; weak = refl }
@@ -183,6 +195,7 @@ reloc_again r fits =
     let p = part_again r.in_init r.weak in
     rw (two r.offset, two r.target, two (cast_unsigned w16 r.addend), to_z-of_z w16 r.addend fits, p.part, p.weak) refl
 
+-- and the decoder finds its type there
 reloc_said_again : (r : Reloc) → FitsSigned w16 r.addend → reloc_of (reloc_bytes r) ≡ r
 reloc_said_again r fits = rw (kind_of-number r.kind) (reloc_again r fits)
 
@@ -203,14 +216,17 @@ behind_again false false code init a w b v former inside some le = le-leb (a + w
 end_in_part : (c : Component) (r : Reloc) → IsReloc c r → reloc_end r ≤ cond r.in_init (length c.init) (length c.code)
 end_in_part c r is = rw (← length_of_part c r) is.inside
 
+-- anything or true
 or_true : (x : Bool) → (x || true) ≡ true
 or_true true = refl
 or_true false = refl
 
+-- an offset that is even where x holds passes its test
 aligned_again : (x : Bool) (n : ℕ) → (IsTrue x → n % 2 ≡ 0) → (not x || eqb (n % 2) 0) ≡ true
 aligned_again true n even = rw (even refl) refl
 aligned_again false n even = refl
 
+-- a target that the grammar allows passes its test
 target_again : (t : ℕ) (weak : Bool) → (t ≤ 10) ⊎ (16 ≤ t) → (IsTrue weak → 16 ≤ t) → (nat_le 16 t || (nat_le t 10 && not weak)) ≡ true
 target_again t weak (inr high) w = rw (le-leb 16 t high) refl
 target_again t true (inl low) w = rw (le-leb 16 t (w refl)) refl
@@ -218,6 +234,7 @@ target_again t false (inl low) w = rw (le-leb t 10 low) (or_true (nat_le 16 t))
 
 -- ---- value bits
 
+-- zeros are all zeros
 replicate_zero : (n : ℕ) → list_all is_zero (replicate n 0) ≡ true
 replicate_zero zero = refl
 replicate_zero (suc n) = replicate_zero n
@@ -244,7 +261,8 @@ field_again c r is =
     let s = spelling c in
     let w = reloc_width r in
     let there = part_slice r.in_init s (length c.code) (length c.init) r.offset w (omega (arith, length-spelling c)) (end_in_part c r is) in
-    let parts = ap (λ (x : List ℕ). cond r.in_init x (slice_range s 32 (32 + length c.code))) (init_again c) ∙ ap (λ (x : List ℕ). cond r.in_init c.init x) (code_again c) in
+    let parts = ap (λ (x : List ℕ). cond r.in_init x (slice_range s 32 (32 + length c.code))) (init_again c)
+    ∙ ap (λ (x : List ℕ). cond r.in_init c.init x) (code_again c) in
     ap (λ (h : Header). let at = field_at h r in slice_range s at (at + w) ++ replicate (4 - w) 0) (header_again c)
     ∙ ap (λ (x : List ℕ). x ++ replicate (4 - w) 0) (sym there ∙ ap (λ (x : List ℕ). slice_range x r.offset (r.offset + w)) parts)
 
@@ -266,7 +284,8 @@ reloc_behind c w (suc i) r here =
     (end_in_part c former f) (end_in_part c r is) (widths (shape_of r.kind)).some rises
 
 -- checks that each pass, on a relocation that is what the bytes say
-passes : (h : Header) (before : Option Reloc) (i : ℕ) (raw field : List ℕ) (kind : RelocType) (r : Reloc) → reloc_with raw kind ≡ r → has_place_byte raw ≡ true → is_inside h r ≡ true → is_aligned r ≡ true
+passes : (h : Header) (before : Option Reloc) (i : ℕ) (raw field : List ℕ) (kind : RelocType) (r : Reloc) → reloc_with raw kind ≡ r
+    → has_place_byte raw ≡ true → is_inside h r ≡ true → is_aligned r ≡ true
     → is_behind before r ≡ true → has_target r ≡ true → is_clear kind field ≡ true → reloc_in h before i raw field (Some kind) ≡ Ok r
 passes h before i raw field kind r said byte inside aligned behind target clear =
     ap (λ (x : Reloc). cond (not (has_place h raw x)) (Err (RelocPlace i)) (cond (not (is_behind before x)) (Err (RelocOrder i))
@@ -274,7 +293,8 @@ passes h before i raw field kind r said byte inside aligned behind target clear 
     ∙ rw (byte, inside, aligned, behind, target, clear) refl
 
 -- the checks pass a relocation that the grammar allows
-check_reloc_again : (c : Component) (before : Option Reloc) (i : ℕ) (r : Reloc) (field : List ℕ) → IsReloc c r → is_behind before r ≡ true → is_clear r.kind field ≡ true
+check_reloc_again : (c : Component) (before : Option Reloc) (i : ℕ) (r : Reloc) (field : List ℕ) → IsReloc c r → is_behind before r ≡ true
+    → is_clear r.kind field ≡ true
     → check_reloc_of (header_of_component c) before i (reloc_bytes r) field ≡ Ok r
 check_reloc_again c before i r field is behind clear =
     let said = reloc_again r is.addend in

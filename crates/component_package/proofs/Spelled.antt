@@ -1,33 +1,32 @@
 -- Bytes with no fault are the spelling of what they say.
-use Rattle.std.proofs.Common.{◌≡◌, ℕ, zero, suc, ◌+◌, ◌*◌, ◌/◌, ◌%◌, ◌<◌, ◌≤◌, Bool, true, false, cond, eqb, Option, Some, None, Result, Err, List, [], ◌∷◌, ◌++◌, length, drop, get_or, map, refl, sym, ap, ap₂, ◌∙◌, arith, slice_range}
-use Rattle.std.specs.Prelude.{not, ◌||◌, ◌&&◌, nat_le, nat_lt, is_some, unwrap_or}
+use Rattle.std.proofs.Common.{◌≡◌, ℕ, ◌+◌, ◌*◌, ◌/◌, ◌%◌, ◌<◌, ◌≤◌, true, cond, eqb, Option, Some, None, List, [], ◌∷◌, ◌++◌, length, take, drop, get_or, map, replicate, refl, sym, ap, ap₂, ◌∙◌, arith, slice_range, take-add}
+use Rattle.std.specs.Prelude.{not, ◌||◌, nat_le, nat_lt, is_some, unwrap_or}
 use Rattle.std.specs.List.{flat_map, range_with_len}
 use Rattle.std.specs.Result.{result_err}
 use Rattle.std.specs.Option.{option_or}
 use Rattle.std.specs.Int.{w16, cast_signed, cast_unsigned}
 use Rattle.std.proofs.lemmas.Int.{of_z-to_z}
 use Rattle.std.proofs.lemmas.Bool.{agree_below_at, eqb-true, leb-true, and_parts, lt-ltb, ltb-true, not-false}
-use Rattle.std.proofs.lemmas.List.{append-nil, drop_all}
+use Rattle.std.proofs.lemmas.List.{append-nil, drop_all, length-take, get_or-take}
 use Rattle.std.proofs.lemmas.List.Folds.{drop_split}
 use Rattle.std.proofs.lemmas.List.FromFn.{fill_by_all}
-use Rattle.std.proofs.lemmas.List.Sums.{AllPass-from_list_all}
 use Rattle.avr_reloc.specs.declared.kind.RelocType.{RelocType}
 use Rattle.avr_reloc.specs.declared.kind.RelocType.TheVariants.{Abs32}
 use Rattle.avr_reloc.specs.Kind.{kind_of, number_of}
 use Rattle.avr_reloc.specs.Field.{AreBytes}
-use Rattle.avr_reloc.proofs.Fixups.{AreBytes-slice, length-field, get_or-slice}
+use Rattle.avr_reloc.proofs.Fixups.{AreBytes-slice, length-field}
 use Rattle.component_package.specs.declared.part.Place.{Place}
 use Rattle.component_package.specs.declared.part.Place.TheVariants as places
 use Rattle.component_package.specs.declared.part.Header.{Header}
 use Rattle.component_package.specs.declared.part.Reloc.{Reloc}
-use Rattle.component_package.specs.declared.fault.PackageFault.{PackageFault}
 use Rattle.component_package.specs.Numbers.{u16_at}
 use Rattle.component_package.specs.Component.{export_bytes, reloc_bytes, header_bytes, spelling, number_of_place}
-use Rattle.component_package.specs.Reading.{header_of, exports_at, relocs_at, total_of, is_blank, has_magic, header_fault, place_of, length_of, is_above, check_export_of, export_in, export_of, raw_export, symbol_before, export_fault, exports_fault, has_place_byte, has_place, is_inside, is_aligned, is_behind, has_target, is_clear, reloc_with, reloc_in, reloc_of, raw_reloc, reloc_before, raw_field, reloc_fault, relocs_fault, package_fault, component_of}
+use Rattle.component_package.specs.Reading.{header_of, exports_at, relocs_at, total_of, is_blank, has_magic, header_fault, place_of, length_of, is_above, check_export_of, export_in, export_of, raw_export, symbol_before, export_fault, exports_fault, is_inside, is_aligned, is_behind, has_target, is_clear, reloc_with, reloc_in, reloc_of, raw_reloc, reloc_before, raw_field, reloc_fault, relocs_fault, package_fault, component_of}
 use Rattle.component_package.proofs.First.{none_or, no_fault, chosen, spared}
-use Rattle.component_package.proofs.Lists.{cells, entries}
+use Rattle.component_package.proofs.Lists.{all_zeros, cells, entries}
 use Rattle.component_package.proofs.HeaderLemmas.{good_header, IsGoodHeader, parts_have_lengths}
 
+-- the low byte of a number, and the high one
 low_byte : (x y : ℕ) → x < 256 → (x + 256 * y) % 256 ≡ x
 low_byte x y p = omega arith
 
@@ -37,7 +36,8 @@ high_byte x y p = omega arith
 -- ---- exports
 
 -- the byte of a place and a weak mark
-kind_byte : (k : ℕ) → k < 256 → is_some (place_of (k % 128)) ≡ true → number_of_place (unwrap_or (place_of (k % 128)) places.Code) + cond (nat_le 128 k) 128 0 ≡ k
+kind_byte : (k : ℕ) → k < 256 → is_some (place_of (k % 128)) ≡ true
+    → number_of_place (unwrap_or (place_of (k % 128)) places.Code) + cond (nat_le 128 k) 128 0 ≡ k
 kind_byte k lt known =
     let right = agree_below_at (λ k. not (is_some (place_of (k % 128))) || eqb (number_of_place (unwrap_or (place_of (k % 128)) places.Code) + cond (nat_le 128 k) 128 0) k) (λ k. true) 256 k refl lt in
     eqb-true _ _ (rw known at right)
@@ -56,11 +56,13 @@ pub record IsGoodExport (h : Header) (before : Option ℕ) (raw : List ℕ) : Ty
   pub blank : get_or raw 3 0 ≡ 0
   pub inside : u16_at raw 4 ≤ length_of h (unwrap_or (place_of (get_or raw 2 0 % 128)) places.Code)
 
+-- an export in a place that there is, with a value within it
 record IsGoodPlace (h : Header) (raw : List ℕ) (place : Option Place) : Type 0 where
   pub known : is_some place ≡ true
   pub blank : get_or raw 3 0 ≡ 0
   pub inside : u16_at raw 4 ≤ length_of h (unwrap_or place places.Code)
 
+-- no fault says so
 good_place : (h : Header) (i : ℕ) (raw : List ℕ) (place : Option Place) → result_err (export_in h i raw place) ≡ None → IsGoodPlace h raw place
 good_place h i raw None e = absurd cc
 good_place h i raw (Some place) e =
@@ -121,6 +123,7 @@ pub record IsGoodReloc (h : Header) (before : Option Reloc) (raw field : List �
   pub target : has_target r ≡ true
   pub clear : is_clear r.kind field ≡ true
 
+-- no fault says so, by the type
 good_kind : (h : Header) (before : Option Reloc) (i : ℕ) (raw field : List ℕ) (kind : Option RelocType) → result_err (reloc_in h before i raw field kind) ≡ None
     → IsGoodReloc h before raw field kind (reloc_with raw (unwrap_or kind Abs32))
 good_kind h before i raw field None e = absurd cc
@@ -142,7 +145,8 @@ good_kind h before i raw field (Some kind) e =
     }
 
 -- no fault says so
-pub good_reloc : (h : Header) (before : Option Reloc) (i : ℕ) (raw field : List ℕ) → result_err (reloc_in h before i raw field (kind_of (get_or raw 3 0))) ≡ None
+pub good_reloc : (h : Header) (before : Option Reloc) (i : ℕ) (raw field : List ℕ)
+    → result_err (reloc_in h before i raw field (kind_of (get_or raw 3 0))) ≡ None
     → IsGoodReloc h before raw field (kind_of (get_or raw 3 0)) (reloc_of raw)
 good_reloc h before i raw field e = good_kind h before i raw field (kind_of (get_or raw 3 0)) e
 
@@ -163,21 +167,14 @@ reloc_there b i bytes whole lt none =
 
 -- ---- the header
 
-blank_at : (b : List ℕ) (k : ℕ) → 32 ≤ length b → is_blank b ≡ true → k < 14 → get_or b (18 + k) 0 ≡ 0
-blank_at b k long blank lt =
-    let zero_there = AllPass-from_list_all (λ x. eqb x 0) (slice_range b 18 32) blank in
-    let inside : k < length (slice_range b 18 32) = omega (arith, length-field b 18 14 long) in
-    sym (get_or-slice b 18 32 k (omega arith)) ∙ eqb-true _ _ (zero_there k 0 inside)
-
-front_cells : (b : List ℕ) → 32 ≤ length b → slice_range b 0 32 ≡ map (λ k. get_or b k 0) (range_with_len 0 32)
-front_cells b long = fill_by_all (λ k. get_or b k 0) (slice_range b 0 32) 32 0 (length-field b 0 32 long) (λ k lt. get_or-slice b 0 32 k (omega arith) ∙ ap (λ i. get_or b i 0) (omega arith))
-
+-- the four bytes of the magic
 record HasMagic (b : List ℕ) : Type 0 where
   pub first : get_or b 0 0 ≡ 0x46
   pub second : get_or b 1 0 ≡ 0x43
   pub third : get_or b 2 0 ≡ 0x50
   pub fourth : get_or b 3 0 ≡ 0x31
 
+-- the test says so
 magic_there : (b : List ℕ) → has_magic b ≡ true → HasMagic b
 magic_there b e =
     let x = and_parts _ _ e in
@@ -185,30 +182,55 @@ magic_there b e =
     let z = and_parts _ _ y.0 in
     record { first = eqb-true _ _ z.0; second = eqb-true _ _ z.1; third = eqb-true _ _ y.1; fourth = eqb-true _ _ x.1 }
 
+-- the first n bytes by their cells
+front_cells : (b : List ℕ) (n : ℕ) → n ≤ length b → take n b ≡ map (λ k. get_or b k 0) (range_with_len 0 n)
+front_cells b n long =
+    let size : length (take n b) ≡ n = omega (arith, length-take n b) in
+    fill_by_all (λ k. get_or b k 0) (take n b) n 0 size (λ k lt. get_or-take n b k 0 lt)
+
+-- the blank bytes are zeros
+blank_there : (b : List ℕ) → 32 ≤ length b → is_blank b ≡ true → slice_range b 18 32 ≡ replicate 14 0
+blank_there b long blank = all_zeros (slice_range b 18 32) blank ∙ ap (λ n. replicate n 0) (length-field b 18 14 long)
+
+-- the header's numbers and zeros are the first 32 bytes
 header_there : (b : List ℕ) → AreBytes b → IsGoodHeader b → header_bytes (component_of b) ≡ slice_range b 0 32
 header_there b bytes good =
-    let h = header_of b in
     let m = magic_there b good.marked in
     let lengths = parts_have_lengths b good.whole in
-    let code : length (component_of b).code ≡ h.code = ap (λ x. x.code) lengths in
-    let init : length (component_of b).init ≡ h.init = ap (λ x. x.init) lengths in
-    let exports : length (component_of b).exports ≡ h.exports = ap (λ x. x.exports) lengths in
-    let relocs : length (component_of b).relocs ≡ h.relocs = ap (λ x. x.relocs) lengths in
-    let z0 = blank_at b 0 good.long good.blank (omega arith) in
-    let z1 = blank_at b 1 good.long good.blank (omega arith) in
-    let z2 = blank_at b 2 good.long good.blank (omega arith) in
-    let z3 = blank_at b 3 good.long good.blank (omega arith) in
-    let z4 = blank_at b 4 good.long good.blank (omega arith) in
-    let z5 = blank_at b 5 good.long good.blank (omega arith) in
-    let z6 = blank_at b 6 good.long good.blank (omega arith) in
-    let z7 = blank_at b 7 good.long good.blank (omega arith) in
-    let z8 = blank_at b 8 good.long good.blank (omega arith) in
-    let z9 = blank_at b 9 good.long good.blank (omega arith) in
-    let z10 = blank_at b 10 good.long good.blank (omega arith) in
-    let z11 = blank_at b 11 good.long good.blank (omega arith) in
-    let z12 = blank_at b 12 good.long good.blank (omega arith) in
-    let z13 = blank_at b 13 good.long good.blank (omega arith) in
-    rw (front_cells b good.long, m.first, m.second, m.third, m.fourth, z0, z1, z2, z3, z4, z5, z6, z7, z8, z9, z10, z11, z12, z13, code, init, exports, relocs, low_byte (get_or b 4 0) (get_or b 5 0) (bytes 4), high_byte (get_or b 4 0) (get_or b 5 0) (bytes 4), low_byte (get_or b 6 0) (get_or b 7 0) (bytes 6), high_byte (get_or b 6 0) (get_or b 7 0) (bytes 6), low_byte (get_or b 8 0) (get_or b 9 0) (bytes 8), high_byte (get_or b 8 0) (get_or b 9 0) (bytes 8), low_byte (get_or b 10 0) (get_or b 11 0) (bytes 10), high_byte (get_or b 10 0) (get_or b 11 0) (bytes 10), low_byte (get_or b 12 0) (get_or b 13 0) (bytes 12), high_byte (get_or b 12 0) (get_or b 13 0) (bytes 12), low_byte (get_or b 14 0) (get_or b 15 0) (bytes 14), high_byte (get_or b 14 0) (get_or b 15 0) (bytes 14), low_byte (get_or b 16 0) (get_or b 17 0) (bytes 16), high_byte (get_or b 16 0) (get_or b 17 0) (bytes 16)) refl
+    let code = ap (λ (h : Header). h.code) lengths in
+    let init = ap (λ (h : Header). h.init) lengths in
+    let exports = ap (λ (h : Header). h.exports) lengths in
+    let relocs = ap (λ (h : Header). h.relocs) lengths in
+    let halves : slice_range b 0 32 ≡ take 18 b ++ slice_range b 18 32 = take-add 18 14 b in
+    let low = λ (at : ℕ). low_byte (get_or b at 0) (get_or b (at + 1) 0) (bytes at) in
+    let high = λ (at : ℕ). high_byte (get_or b at 0) (get_or b (at + 1) 0) (bytes at) in
+    rw (
+      halves,
+      front_cells b 18 (omega (arith, good.long)),
+      blank_there b good.long good.blank,
+      m.first,
+      m.second,
+      m.third,
+      m.fourth,
+      code,
+      init,
+      exports,
+      relocs,
+      low 4,
+      high 4,
+      low 6,
+      high 6,
+      low 8,
+      high 8,
+      low 10,
+      high 10,
+      low 12,
+      high 12,
+      low 14,
+      high 14,
+      low 16,
+      high 16,
+    ) refl
 
 -- ---- the whole
 

@@ -1,10 +1,8 @@
 -- The steps of reading, one by one.
-use Rattle.std.proofs.Common.{◌≡◌, ℕ, suc, ◌+◌, ◌-◌, ◌≤◌, ◌%◌, Bool, true, false, cond, Option, Some, None, Result, Ok, Err, List, [], ◌∷◌, ◌++◌, length, get_or, replicate, refl, sym, ap, subst, ◌∙◌, inl, inr, arith, slice_range, add-one}
+use Rattle.std.proofs.Common.{◌≡◌, ℕ, ◌+◌, ◌-◌, ◌≤◌, ◌%◌, Bool, true, false, cond, Option, Some, None, Result, Ok, Err, List, [], ◌∷◌, ◌++◌, length, get_or, replicate, refl, sym, ap, inl, inr, arith, add-one}
 use Rattle.std.specs.Prelude.{not, ◌&&◌, unwrap_or}
-use Rattle.std.specs.Option.{option_or}
 use Rattle.std.specs.Result.{result_err}
-use Rattle.std.proofs.lemmas.Bool.{cases_Bool, ltb-false, le-ltb, lt-ltb, cases_lt}
-use Rattle.std.proofs.lemmas.List.{get_or-take}
+use Rattle.std.proofs.lemmas.Bool.{cases_Bool}
 use Rattle.avr_reloc.specs.declared.kind.RelocType.{RelocType}
 use Rattle.avr_reloc.specs.declared.kind.RelocType.TheVariants.{Abs32}
 use Rattle.avr_reloc.specs.Kind.{kind_of}
@@ -16,8 +14,7 @@ use Rattle.component_package.specs.declared.part.Header.{Header}
 use Rattle.component_package.specs.declared.fault.PackageFault.{PackageFault}
 use Rattle.component_package.specs.declared.fault.PackageFault.TheVariants.{RelocPlace, RelocOrder, Target, FieldNotZero}
 use Rattle.component_package.specs.Reading.{header_of, header_fault, place_of, check_export_of, export_in, export_of, raw_export, symbol_before, export_fault, exports_fault, has_place_byte, is_inside, has_place, is_behind, has_target, is_clear, check_reloc_of, reloc_in, reloc_with, reloc_of, raw_reloc, reloc_before, raw_field, reloc_fault, relocs_fault, span_in, field_span_of, package_fault}
-use Rattle.component_package.specs.Laws.{spanned_field, fault_by_steps, export_step, reloc_step, StepsFindTheFault}
-use Rattle.component_package.proofs.First.{first_fault-same}
+use Rattle.component_package.specs.Laws.{spanned_field, reloc_step}
 
 -- ---- choices that came to a value
 
@@ -36,13 +33,16 @@ taken_value : {A F : Type 0} (b : Bool) (x : A) (f : F) (y : A) → cond b (Ok x
 taken_value true x f y e = cc
 taken_value false x f y e = absurd cc
 
+-- the value behind a test that was false
 past_value : {A F : Type 0} (b : Bool) (x : A) (f : F) (y : A) → cond b (Err f) (Ok x) ≡ Ok y → y ≡ x
 past_value true x f y e = absurd cc
 past_value false x f y e = cc
 
 -- ---- exports
 
-placed : (h : Header) (i : ℕ) (raw : List ℕ) (place : Option Place) (e : Export) → export_in h i raw place ≡ Ok e → e ≡ record (export_of raw) { place = unwrap_or place places.Code }
+-- an export in a place that there is
+placed : (h : Header) (i : ℕ) (raw : List ℕ) (place : Option Place) (e : Export) → export_in h i raw place ≡ Ok e
+    → e ≡ record (export_of raw) { place = unwrap_or place places.Code }
 placed h i raw None e here = absurd cc
 placed h i raw (Some place) e here = taken_value _ _ _ _ here
 
@@ -56,14 +56,17 @@ pub export_fault_is : (b : List ℕ) (h : Header) (before : Option ℕ) (i : ℕ
 export_fault_is b h before i raw r header former there result = rw (result, header, former, there) refl
 
 -- the symbol before the next export
-pub symbol_after : (b : List ℕ) (h : Header) (before : Option ℕ) (i : ℕ) (raw : List ℕ) (e : Export) → raw ≡ raw_export b i → Ok e ≡ check_export_of h before i raw → Some e.symbol ≡ symbol_before b (i + 1)
+pub symbol_after : (b : List ℕ) (h : Header) (before : Option ℕ) (i : ℕ) (raw : List ℕ) (e : Export) → raw ≡ raw_export b i
+    → Ok e ≡ check_export_of h before i raw → Some e.symbol ≡ symbol_before b (i + 1)
 symbol_after b h before i raw e there result =
     let said = export_said h before i raw e (sym result) in
     rw (add-one, said, there) refl
 
 -- ---- relocations
 
-accepted : (h : Header) (before : Option Reloc) (i : ℕ) (raw field : List ℕ) (kind : Option RelocType) (r : Reloc) → reloc_in h before i raw field kind ≡ Ok r → r ≡ reloc_with raw (unwrap_or kind Abs32)
+-- a relocation of a type that there is, with all tests passed
+accepted : (h : Header) (before : Option Reloc) (i : ℕ) (raw field : List ℕ) (kind : Option RelocType) (r : Reloc)
+    → reloc_in h before i raw field kind ≡ Ok r → r ≡ reloc_with raw (unwrap_or kind Abs32)
 accepted h before i raw field None r here = absurd cc
 accepted h before i raw field (Some kind) x here =
     let r = reloc_with raw kind in
@@ -94,7 +97,8 @@ reloc_fault_is b h before i raw field r header former there span result =
     rw (result, span, header, former, there) (ap result_err (sym (field_counts b (reloc_before b i) i (raw_reloc b i) (kind_of (get_or (raw_reloc b i) 3 0)))))
 
 -- the relocation before the next one
-pub reloc_after : (b : List ℕ) (h : Header) (before : Option Reloc) (i : ℕ) (raw field : List ℕ) (r : Reloc) → raw ≡ raw_reloc b i → Ok r ≡ check_reloc_of h before i raw field → Some r ≡ reloc_before b (i + 1)
+pub reloc_after : (b : List ℕ) (h : Header) (before : Option Reloc) (i : ℕ) (raw field : List ℕ) (r : Reloc) → raw ≡ raw_reloc b i
+    → Ok r ≡ check_reloc_of h before i raw field → Some r ≡ reloc_before b (i + 1)
 reloc_after b h before i raw field r there result =
     let said = reloc_said h before i raw field r (sym result) in
     rw (add-one, said, there) refl

@@ -80,6 +80,7 @@ pub record IsHeadline (s : Mote) (entry exit : Shown) (Left : Shown → Type 0) 
   -- no byte is taken past END, past a length that is too great, or past the one byte behind the last frame that is served
   pub read : Frames taken frames rest
   pub few : length frames ≤ 1000000
+  pub budget : length frames ≡ 1000000 → length rest ≤ 1
   -- wherever power is cut
   pub kept : (x : Shown) (sent : List ℕ) → Left x → x.sent ≡ entry.sent ++ sent → IsKept (chosen_of s ∷ session_commits s frames) x sent
   pub appends : (x : Shown) → Left x → (sent : List ℕ) × (x.sent ≡ entry.sent ++ sent)

@@ -1,5 +1,5 @@
 -- Laws over the definitions.
-use Rattle.std.specs.Prelude.{◌≡◌, ℕ, ◌+◌, ◌-◌, ◌≤◌, List, ◌++◌, length, take, replicate, slice_range, Option, Some, None, Ok}
+use Rattle.std.specs.Prelude.{◌≡◌, ℕ, ◌+◌, ◌-◌, List, ◌++◌, length, take, replicate, slice_range, Option, Some, None, Ok}
 use Rattle.std.specs.Option.{option_or}
 use Rattle.std.specs.Result.{result_err}
 use Rattle.avr_reloc.specs.Field.{AreBytes}
@@ -10,6 +10,7 @@ use Rattle.component_package.specs.declared.fault.PackageFault.{PackageFault}
 use Rattle.component_package.specs.Component.{Component}
 use Rattle.component_package.specs.Reading.{first_fault, header_of, header_fault, check_export_of, raw_export, symbol_before, export_of, check_reloc_of, raw_reloc, reloc_before, reloc_of, field_span_of, package_fault, component_of}
 use Rattle.component_package.specs.Grammar.{Spells}
+use Rattle.component_package.specs.Manifest.{Release, StoredRelease, SpellsRelease, Stores, manifest_fault, release_in, stored_in}
 use Rattle.component_package.specs.Frames.{Frame, Frames}
 
 -- the frames of a list of bytes are one list, and so is the rest
@@ -46,11 +47,31 @@ reloc_step h b i = let raw = raw_reloc b i in result_err (check_reloc_of h (relo
 abbrev pub fault_by_steps : List ℕ → Option PackageFault
 fault_by_steps b =
     let h = header_of (take 32 b) in
-    option_or (header_fault (take 32 b) (length b)) (option_or (first_fault (export_step h b) h.exports) (first_fault (reloc_step h b) h.relocs))
+    option_or (header_fault (take 32 b) (length b))
+    (option_or (first_fault (export_step h b) h.exports) (first_fault (reloc_step h b) h.relocs))
 
 -- a package that is read piece by piece has the fault that it has as a whole, and what the steps accept is what the bytes say
 pub record StepsFindTheFault : Type 0 where
   pub fault : (b : List ℕ) → fault_by_steps b ≡ package_fault b
   pub header : (b : List ℕ) → header_of (take 32 b) ≡ header_of b
-  pub export : (h : Header) (before : Option ℕ) (i : ℕ) (raw : List ℕ) (e : Export) → check_export_of h before i raw ≡ Ok e → e ≡ export_of raw
-  pub reloc : (h : Header) (before : Option Reloc) (i : ℕ) (raw field : List ℕ) (r : Reloc) → check_reloc_of h before i raw field ≡ Ok r → r ≡ reloc_of raw
+  pub export : (h : Header) (before : Option ℕ) (i : ℕ) (raw : List ℕ) (e : Export)
+      → check_export_of h before i raw ≡ Ok e → e ≡ export_of raw
+  pub reloc : (h : Header) (before : Option Reloc) (i : ℕ) (raw field : List ℕ) (r : Reloc)
+      → check_reloc_of h before i raw field ≡ Ok r → r ≡ reloc_of raw
+
+-- bytes have no fault of a manifest exactly where they spell some release, which is the one that they say
+pub record FaultlessManifestsSpell : Type 0 where
+  pub spells : (b : List ℕ) → AreBytes b → manifest_fault b ≡ None → SpellsRelease b (release_in b)
+  pub faultless : (b : List ℕ) (r : Release) → SpellsRelease b r → manifest_fault b ≡ None
+  pub said : (b : List ℕ) (r : Release) → SpellsRelease b r → release_in b ≡ r
+
+-- one release has one spelling, and one list of bytes spells one release at most
+pub record ManifestIsOne : Type 0 where
+  pub bytes : (b d : List ℕ) (r : Release) → SpellsRelease b r → SpellsRelease d r → b ≡ d
+  pub release : (b : List ℕ) (r s : Release) → SpellsRelease b r → SpellsRelease b s → r ≡ s
+
+-- one stored release has one form in bytes, and one list of bytes is one stored release's at most, which is the one that they say
+pub record StoredReleaseIsOne : Type 0 where
+  pub bytes : (b d : List ℕ) (m : StoredRelease) → Stores b m → Stores d m → b ≡ d
+  pub release : (b : List ℕ) (m n : StoredRelease) → Stores b m → Stores b n → m ≡ n
+  pub said : (b : List ℕ) (m : StoredRelease) → Stores b m → stored_in b ≡ m

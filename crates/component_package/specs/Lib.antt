@@ -11,6 +11,7 @@ pub mod Frames
 pub mod Lines
 pub mod FirstMachine
 pub mod Manifest
+pub mod ManifestSteps
 pub mod Store
 pub mod Sides
 pub mod Sound

@@ -69,6 +69,16 @@ pub record IsStored (m : StoredRelease) : Type 0 where
   pub slots : AllByRecursion (λ p. p.slot < 32) m.placed
   pub apart : AreDistinct (map (λ p. p.slot) m.placed)
 
+-- the condition on a manifest that the code takes: its count is right, and its first entries are a release
+pub record IsManifest (m : Manifest) : Type 0 where
+  pub count : m.count ≤ 16
+  pub release : IsRelease (release_of m)
+
+-- the same for a manifest with slots
+pub record IsSlotManifest (m : SlotManifest) : Type 0 where
+  pub count : m.manifest.count ≤ 16
+  pub stored : IsStored (stored_of m)
+
 -- ---- manifests on the line
 
 -- 38 bytes: component, version, length of the package, digest

@@ -42,7 +42,15 @@ first_fault f (suc n) = option_or (first_fault f n) (f n)
 
 -- the fields of a header
 abbrev pub header_of : List ℕ → Header
-header_of b = record { component = u16_at b 4; version = u16_at b 6; code = u16_at b 8; init = u16_at b 10; bss = u16_at b 12; exports = u16_at b 14; relocs = u16_at b 16 }
+header_of b = record {
+  component = u16_at b 4;
+  version = u16_at b 6;
+  code = u16_at b 8;
+  init = u16_at b 10;
+  bss = u16_at b 12;
+  exports = u16_at b 14;
+  relocs = u16_at b 16;
+}
 
 -- where the exports begin, the relocations, and where the package ends
 abbrev pub exports_at : Header → ℕ
@@ -84,7 +92,12 @@ header_fault b n =
 -- ---- exports
 
 abbrev pub place_of : ℕ → Option Place
-place_of n = if n == 0 then Some places.Code else if n == 1 then Some places.Init else if n == 2 then Some places.Bss else if n == 3 then Some places.Absolute else None
+place_of n =
+    if n == 0 then Some places.Code
+    else if n == 1 then Some places.Init
+    else if n == 2 then Some places.Bss
+    else if n == 3 then Some places.Absolute
+    else None
 
 -- how long a part is; an absolute value is any number
 abbrev pub length_of : Header → Place → ℕ
@@ -170,7 +183,14 @@ abbrev pub is_clear : RelocType → List ℕ → Bool
 is_clear kind field = list_all (λ x. x == 0) (masked field (mask_of (shape_of kind)))
 
 abbrev pub reloc_with : List ℕ → RelocType → Reloc
-reloc_with raw kind = record { offset = u16_at raw 0; in_init = slice_index raw 2 % 128 == 1; weak = nat_le 128 (slice_index raw 2); kind = kind; target = u16_at raw 4; addend = cast_signed w16 (u16_at raw 6) }
+reloc_with raw kind = record {
+  offset = u16_at raw 0;
+  in_init = slice_index raw 2 % 128 == 1;
+  weak = nat_le 128 (slice_index raw 2);
+  kind = kind;
+  target = u16_at raw 4;
+  addend = cast_signed w16 (u16_at raw 6);
+}
 
 abbrev pub reloc_in : Header → Option Reloc → ℕ → List ℕ → List ℕ → Option RelocType → Result Reloc PackageFault
 reloc_in h before i raw field None = Err (RelocKind i)
@@ -228,7 +248,12 @@ package_fault b = option_or (header_fault b (length b)) (option_or (exports_faul
 
 -- what six bytes say where nothing is wrong with them
 abbrev pub export_of : List ℕ → Export
-export_of raw = record { symbol = u16_at raw 0; place = unwrap_or (place_of (slice_index raw 2 % 128)) places.Code; weak = nat_le 128 (slice_index raw 2); value = u16_at raw 4 }
+export_of raw = record {
+  symbol = u16_at raw 0;
+  place = unwrap_or (place_of (slice_index raw 2 % 128)) places.Code;
+  weak = nat_le 128 (slice_index raw 2);
+  value = u16_at raw 4;
+}
 
 -- the first n of what f numbers
 abbrev pub list_of : {X : Type 0} → (ℕ → X) → ℕ → List X
@@ -250,4 +275,12 @@ component_of b =
 
 -- the header of a component's package
 abbrev pub header_of_component : Component → Header
-header_of_component c = record { component = c.component; version = c.version; code = length c.code; init = length c.init; bss = c.bss; exports = length c.exports; relocs = length c.relocs }
+header_of_component c = record {
+  component = c.component;
+  version = c.version;
+  code = length c.code;
+  init = length c.init;
+  bss = c.bss;
+  exports = length c.exports;
+  relocs = length c.relocs;
+}

@@ -1,5 +1,5 @@
 -- The parts of a mote's flashes that an update goes through: gates, the two sides, areas and slots.
-use Rattle.std.specs.Prelude.{ℕ, ◌==◌, Bool, true, false, List, [], take, drop, slice_index, slice_index_or, if◌then◌else◌}
+use Rattle.std.specs.Prelude.{ℕ, ◌==◌, ◌&&◌, nat_lt, Bool, true, false, List, [], take, drop, slice_index, slice_index_or, if◌then◌else◌}
 use Rattle.std.specs.List.{concat}
 use Rattle.component_package.specs.Store.{slots_of}
 
@@ -39,6 +39,7 @@ pages_from first count ext = take count (drop first ext)
 
 -- the parts that soundness speaks of
 pub record Parts : Type 0 where
+  -- by the number of its page: there are eight, and from 8 on none is open
   pub gates : ℕ → Bool
   pub prog : List (List ℕ)
   -- the bytes of the five pages of each side
@@ -54,7 +55,7 @@ pub record Parts : Type 0 where
 -- the parts of program flash and external flash
 abbrev pub parts_of : List (List ℕ) → List (List ℕ) → Parts
 parts_of prog ext = record {
-  gates = is_open ext;
+  gates = λ gate. nat_lt gate 8 && is_open ext gate;
   prog = prog;
   side_a = concat (pages_from 8 5 ext);
   side_b = concat (pages_from 13 5 ext);

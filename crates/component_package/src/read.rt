@@ -51,7 +51,7 @@ fn four_bytes(bytes: &[u8], at: usize, width: usize) -> [u8; 4]
 fn byte_or_zero(raw: &[u8], i: usize) -> u8
     ensures { result ≡ slice_index raw.now i }
 {
-    if i < raw.len() { raw[i] } else { 0 }
+    raw.get(i).copied().unwrap_or(0)
 }
 
 fn export_raw(bytes: &[u8], h: &Header, i: u16) -> [u8; 6]

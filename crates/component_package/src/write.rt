@@ -86,7 +86,8 @@ fn push_relocs(into: &mut Vec<u8>, relocs: &[Reloc]) -> Result<(), AllocError>
 // The numbers of the header, in their order.
 fn numbers_of(p: &Package) -> [u16; 7]
     requires { IsComponent p.now }
-    ensures { result ≡ (let c = p.now in c.component ∷ c.version ∷ length c.code ∷ length c.init ∷ c.bss ∷ length c.exports ∷ length c.relocs ∷ []) }
+    ensures { result ≡ (let c = p.now in
+        c.component ∷ c.version ∷ length c.code ∷ length c.init ∷ c.bss ∷ length c.exports ∷ length c.relocs ∷ []) }
 {
     [
         p.component,

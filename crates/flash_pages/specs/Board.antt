@@ -2,6 +2,7 @@
 use Rattle.std.specs.Prelude.{◌≡◌, ◌≢◌, ◌⊎◌, ◌↔◌, ℕ, ◌+◌, ◌<◌, ◌≤◌, ◌^◌, ◌-◌, min, List, [], length, take, drop, Option, Some, None}
 use Rattle.flash_pages.specs.State.{State, Place, IsState, Spoils, with_page, with_sent, MayHold}
 
+-- all that a board shows of itself
 pub record View : Type 1 where
   -- what both flashes hold and what was sent; a board may tell none
   pub state : Option State
@@ -11,10 +12,13 @@ pub record View : Type 1 where
   pub moment : ℕ
   -- a cut at some moment since that one may have left this state
   pub left_since : ℕ → State → Type 0
+  -- how often each page was programmed, and how often all of them together
   pub programs : Place → ℕ
   pub all_programs : ℕ
+  -- how many calls on a flash failed, and how many on the line
   pub flash_faults : ℕ
   pub line_faults : ℕ
+  -- a state that is told is 480 pages, 2,048 pages and bytes
   pub sizes : (s : State) → state ≡ Some s → IsState s
   -- the present state always passes
   pub present : (s : State) (t : ℕ) → state ≡ Some s → t ≤ moment → left_since t s
@@ -25,20 +29,20 @@ pub record View : Type 1 where
 abbrev pub Rose : ℕ → ℕ → Type 0
 Rose before now = min (before + 1) (2 ^ 64 - 1) ≤ now
 
--- Time goes on: a cut since t may have left what it might have left before, or what this call may leave.
+-- Time goes on: a cut since t may have left what it might have left before, or what this call may leave, and nothing else.
 pub record Elapses (old new : View) (leaves : State → State → Type 0) : Type 0 where
   pub later : old.moment ≤ new.moment
   pub nothing_else : (s x : State) (t : ℕ) → old.state ≡ Some s → t ≤ old.moment → new.left_since t x → old.left_since t x ⊎ leaves s x
   pub keeps : (x : State) (t : ℕ) → t ≤ old.moment → old.left_since t x → new.left_since t x
 
--- what holds of each call on a flash, on every board
+-- what holds of each call on a flash, on every board: it tells no more and no less, and touches neither the bytes left nor the line's faults
 pub record UsesFlash (old new : View) : Type 0 where
   pub untold : old.state ≡ None → new.state ≡ None
   pub left : new.left ≡ old.left
   pub line : new.line_faults ≡ old.line_faults
   pub flash : old.flash_faults ≤ new.flash_faults
 
--- a read: nothing is changed
+-- a read, done or failed: nothing is changed
 pub record Reads (old new : View) : Type 0 where
   pub state : new.state ≡ old.state
   pub cut : Elapses old new (λ s x. x ≡ s)
@@ -46,7 +50,7 @@ pub record Reads (old new : View) : Type 0 where
   pub all_programs : new.all_programs ≡ old.all_programs
   pub uses : UsesFlash old new
 
--- a program of a page, only where it is needed, done or failed
+-- a program of a page, only where it is needed, done or failed: the page may hold any bytes, and no other page is touched
 pub record Programs (needed : State → Type 0) (place : Place) (old new : View) : Type 0 where
   pub state : (s : State) → old.state ≡ Some s → (x : State) × (new.state ≡ Some x) × MayHold needed place s x
   pub cut : Elapses old new (MayHold needed place)
@@ -55,7 +59,7 @@ pub record Programs (needed : State → Type 0) (place : Place) (old new : View)
   pub none : (s : State) → old.state ≡ Some s → (needed s → ⊥) → (new.programs place ≡ old.programs place) × (new.all_programs ≡ old.all_programs)
   pub uses : UsesFlash old new
 
--- the page holds these bytes
+-- a program that was done: the page holds these bytes, and its number of programs rose by one
 pub record IsProgrammed (place : Place) (bytes : List ℕ) (old new : View) : Type 0 where
   pub state : (s : State) → old.state ≡ Some s → new.state ≡ Some (with_page s place bytes)
   pub programs : (s : State) → old.state ≡ Some s → new.programs place ≡ old.programs place + 1
@@ -74,14 +78,14 @@ pub record UsesLine (leaves : State → State → Type 0) (old new : View) : Typ
   pub line : old.line_faults ≤ new.line_faults
   pub flash : new.flash_faults ≡ old.flash_faults
 
--- so many bytes were given, and are left no more
+-- so many of the next bytes were given, and are left no more; none of them exactly where nothing was left
 pub record Receives (count : ℕ) (old_into new_into : List ℕ) (old new : View) : Type 0 where
   pub within : count ≤ length old_into
   pub bytes : (bytes : List ℕ) → old.left ≡ Some bytes → (new.left ≡ Some (drop count bytes)) × (take count new_into ≡ take count bytes) × (count ≤ length bytes)
   pub ends : (bytes : List ℕ) → old.left ≡ Some bytes → 0 < length old_into → (count ≡ 0) ↔ (bytes ≡ [])
   pub line : new.line_faults ≡ old.line_faults
 
--- so many bytes of the piece were sent
+-- so many bytes from the front of the piece were sent, at least one of a piece that isn't empty
 pub record Sends (count : ℕ) (piece : List ℕ) (old new : View) : Type 0 where
   pub within : count ≤ length piece
   pub some : 0 < length piece → 0 < count

@@ -26,24 +26,29 @@ LeftSince s [] t x = x ≡ s
 LeftSince s (change ∷ older) t x =
     (x ≡ s) ⊎ ((t ≤ length older) × (Inside change (undo s change) s x ⊎ LeftSince (undo s change) older t x))
 
+-- whether a change is a program
 abbrev pub is_program : Change → Bool
 is_program (ProgHeld page bytes) = true
 is_program (ExtHeld page bytes) = true
 is_program (SentSoFar count) = false
 
+-- whether a change is a program of this page
 abbrev pub is_program_of : Place → Change → Bool
 is_program_of (Prog p) (ProgHeld page bytes) = p == page
 is_program_of (Ext p) (ExtHeld page bytes) = p == page
 is_program_of place change = false
 
+-- how many changes pass a test
 abbrev pub count_changes : (Change → Bool) → List Change → ℕ
 count_changes p [] = 0
 count_changes p (change ∷ older) = (if p change then 1 else 0) + count_changes p older
 
+-- the present state may always have been left
 pub left_at_once : (s : State) (log : List Change) (t : ℕ) → LeftSince s log t s
 left_at_once s [] t = refl
 left_at_once s (change ∷ older) t = inl refl
 
+-- and no other, since the newest change
 pub only_now : (s x : State) (log : List Change) → LeftSince s log (length log) x → x ≡ s
 only_now s x [] is = is
 only_now s x (change ∷ older) (inl is) = is

@@ -1,20 +1,43 @@
-// A board in memory, whose calls fail and stop as a plan says. It keeps what each change took the place of.
-ghost use Rattle.std.specs.Prelude.{◌≡◌, ◌≤◌, ◌<◌, ◌+◌, ◌*◌, ◌++◌, [], ◌∷◌, length, slice_set, replicate, OnOk, OnErr, IfOk, IfSome, Some, All};
-ghost use Rattle.flash_pages.specs.State.{AreBytes, IsPage, Ext, page_at};
+//! A board in memory, whose calls fail and stop as a plan says.
+//!
+//! It keeps what each change took the place of. So what a cut may have left at any moment is told by undoing the changes, the newest first.
+ghost use Rattle.std.specs.Prelude.{◌≡◌, ◌↔◌, ◌≤◌, ◌<◌, ◌+◌, ◌++◌, [], ◌∷◌, length, slice_set, replicate, OnOk, OnErr, IfOk, IsTrue, IsSomeAnd, All};
+ghost use Rattle.flash_pages.specs.State.{AreBytes, IsPage, Prog, Ext, page_at};
+ghost use Rattle.flash_pages.specs.Log.{is_program};
 
-use crate::log::Change;
+use crate::log::{Change, ChangeLog};
 use crate::{Board, Failed, raised};
 use std::alloc::{AllocError, Global};
 
+/// There is no memory left.
+#[derive(Clone, Copy, Debug, PartialEq, Eq)]
+pub struct NoMemory;
+
+impl From<AllocError> for NoMemory {
+    fn from(_error: AllocError) -> NoMemory {
+        NoMemory
+    }
+}
+
+/// What is to go wrong on a board in memory, and in what pieces it gives its input.
 #[derive(Drop)]
 pub struct BoardPlan {
+    /// The calls that answer `Failed` and do nothing. The calls of `Board` are numbered from 1.
     pub fail: Vec<u32>,
+
+    /// The number of the program, from 1 and over both flashes, in which the power is cut: it writes `spoil` in place of its page.
+    /// It and each later call answer `Failed`. With 0 there is no such program.
     pub stop_at: u32,
+
+    /// What the page of the stopped program then holds.
     pub spoil: [u8; 256],
+
+    /// The most bytes that one `receive` gives, at least 1.
     pub chunk: u16,
     ghost some: { 0 < chunk },
 }
 
+/// A board in memory, which tells its state and the bytes left to receive.
 #[derive(Drop)]
 pub struct MemoryBoard {
     prog: Vec<[u8; 256]>,
@@ -22,12 +45,11 @@ pub struct MemoryBoard {
     sent: Vec<u8>,
     input: Vec<u8>,
     taken: usize,
-    log: Vec<Change>,
+    log: ChangeLog,
     plan: BoardPlan,
-    calls: u32,
-    programs: u32,
+    calls: u64,
     stopped: bool,
-    program_room: u32,
+    sent_room: u32,
     flash_faults: u64,
     line_faults: u64,
     ghost prog_size: { length prog.items ≡ 480 },
@@ -36,8 +58,10 @@ pub struct MemoryBoard {
     ghost ext_pages: { All IsPage ext.items },
     ghost sent_bytes: { AreBytes sent.items },
     ghost taken_within: { taken ≤ length input.items },
+    ghost sent_within: { length sent.items ≤ sent_room },
 }
 
+// So many pages of zeros.
 fn zero_pages(alloc: Global, count: usize) -> Result<Vec<[u8; 256]>, AllocError>
     ensures zeros { IfOk result (λ pages. pages.items ≡ replicate count (replicate 256 0)) }
     ensures pages { IfOk result (λ pages. All IsPage pages.items) }
@@ -50,90 +74,162 @@ fn zero_pages(alloc: Global, count: usize) -> Result<Vec<[u8; 256]>, AllocError>
 }
 
 impl MemoryBoard {
-    ghost use Rattle.flash_pages.specs.Memory.{memory_view, zeros};
+    ghost use Rattle.flash_pages.specs.Memory.{memory_view, zeros, IsFresh, unsent, plan_of, program_room, sent_room};
 
-    /// A board whose pages hold zeros, with room for so many programs.
+    /// A board whose pages hold zeros and that has sent nothing. It takes room for `programs` programs of pages and for
+    /// `sent` sent bytes here, so that no call of `Board` takes memory. `NoMemory` is want of memory alone.
     pub fn new(
         alloc: Global,
         input: &[u8],
         plan: BoardPlan,
         programs: u32,
-    ) -> Result<MemoryBoard, AllocError>
-        ensures state { IfOk result (λ board. (memory_view board).state ≡ Some zeros) }
-        ensures left { IfOk result (λ board. (memory_view board).left ≡ Some input.now) }
-        ensures moment { IfOk result (λ board. (memory_view board).moment ≡ 0) }
+        sent: u32,
+    ) -> Result<MemoryBoard, NoMemory>
+        ensures fresh { IfOk result (λ board. IsFresh zeros input.now (memory_view board)) }
+        ensures plan { IfOk result (λ board. plan_of board ≡ plan) }
+        ensures rooms { IfOk result (λ board. (program_room board ≡ programs) × (sent_room board ≡ sent)) }
     {
         Ok(MemoryBoard {
             prog: zero_pages(alloc, 480)?,
             ext: zero_pages(alloc, 2048)?,
-            sent: Vec::new(alloc),
+            sent: Vec::with_capacity(alloc, sent as usize)?,
             input: input.to_vec(alloc)?,
             taken: 0,
-            log: Vec::with_capacity(alloc, programs as usize)?,
+            log: ChangeLog::with_room(alloc, programs, sent)?,
             plan,
             calls: 0,
-            programs: 0,
             stopped: false,
-            program_room: programs,
+            sent_room: sent,
             flash_faults: 0,
             line_faults: 0,
         })
     }
 
+    /// The power is back: both flashes and the rooms are kept, and all else begins anew, with this input and this plan.
+    /// `NoMemory` is want of memory alone; the board is gone then.
+    pub fn restart(
+        self,
+        alloc: Global,
+        input: &[u8],
+        plan: BoardPlan,
+    ) -> Result<MemoryBoard, NoMemory>
+        ensures fresh { IfOk result (λ board. IsSomeAnd (memory_view self).state (λ s. IsFresh (unsent s) input.now (memory_view board))) }
+        ensures plan { IfOk result (λ board. plan_of board ≡ plan) }
+        ensures rooms { IfOk result (λ board. (program_room board ≡ program_room self) × (sent_room board ≡ sent_room self)) }
+    {
+        let MemoryBoard {
+            prog,
+            ext,
+            mut sent,
+            log,
+            sent_room,
+            ..
+        } = self;
+        let input = input.to_vec(alloc)?;
+        sent.clear();
+        Ok(MemoryBoard {
+            prog,
+            ext,
+            sent,
+            input,
+            taken: 0,
+            log: log.cleared(),
+            plan,
+            calls: 0,
+            stopped: false,
+            sent_room,
+            flash_faults: 0,
+            line_faults: 0,
+        })
+    }
+
+    /// This page of program flash.
+    pub fn prog_page(&self, page: u16) -> &[u8; 256]
+        requires { page < 480 }
+        ensures { IsSomeAnd (memory_view self.now).state (λ s. result.now ≡ page_at s (Prog page)) }
+    {
+        &self.prog[page as usize]
+    }
+
+    /// This page of external flash.
     pub fn ext_page(&self, page: u16) -> &[u8; 256]
         requires { page < 2048 }
-        ensures { IfSome (memory_view self.now).state (λ s. result.now ≡ page_at s (Ext page)) }
+        ensures { IsSomeAnd (memory_view self.now).state (λ s. result.now ≡ page_at s (Ext page)) }
     {
         &self.ext[page as usize]
     }
 
-    pub fn program_count(&self) -> u32 {
-        self.programs
+    /// The bytes that were sent since the board was made or last restarted.
+    pub fn sent_bytes(&self) -> &[u8]
+        ensures { IsSomeAnd (memory_view self.now).state (λ s. result.now ≡ s.sent) }
+    {
+        &self.sent
+    }
+
+    /// How many programs of pages there were since the board was made or last restarted, that of a stop among them.
+    pub fn program_count(&self) -> u32
+        ensures { result ≡ (memory_view self.now).all_programs }
+    {
+        self.log.program_count()
     }
 }
 
 // Counts a call, and says whether it is one that is to fail.
-fn fails(plan: &BoardPlan, calls: &mut u32, stopped: bool) -> bool {
+fn fails(plan: &BoardPlan, calls: &mut u64, stopped: bool) -> bool {
     *calls = calls.saturating_add(1);
-    stopped || plan.fail.contains(&*calls)
+    if stopped {
+        return true;
+    }
+    match u32::try_from(*calls) {
+        Ok(number) => plan.fail.contains(&number),
+        Err(_) => false,
+    }
 }
 
-// Puts other bytes into a page, and keeps what they took the place of.
+// Whether the program after so many is the one with this number.
+fn is_next(number: u32, programs: u32) -> bool
+    ensures { IsTrue result ↔ (number ≡ programs + 1) }
+{
+    number > 0 && number - 1 == programs
+}
+
+// Puts other bytes into a page, and keeps what they took the place of. Where there is no room for that, nothing is done.
 fn replace(
     pages: &mut Vec<[u8; 256]>,
-    log: &mut Vec<Change>,
+    log: &mut ChangeLog,
     page: u16,
     bytes: &[u8; 256],
     change: Change,
 ) -> Result<(), Failed>
-    requires { page < length pages.old.items }
+    requires within { page < length pages.old.items }
+    requires program { IsTrue (is_program change) }
     ensures pages { OnOk result (pages.new.items ≡ slice_set pages.old.items page bytes.now) }
-    ensures log { OnOk result (log.new.items ≡ log.old.items ++ change ∷ []) }
+    ensures log { OnOk result (log.new.changes.items ≡ log.old.changes.items ++ change ∷ []) }
     ensures pages_err { OnErr result (pages.new.items ≡ pages.old.items) }
-    ensures log_err { OnErr result (log.new.items ≡ log.old.items) }
+    ensures log_err { OnErr result (log.new.changes.items ≡ log.old.changes.items) }
     ensures size { length bytes.now ≡ 256 }
     ensures bytes { AreBytes bytes.now }
     ensures all { All IsPage pages.old.items → All IsPage pages.new.items }
 {
-    if log.push(change).is_err() {
+    if log.push_program(change).is_err() {
         return Err(Failed);
     }
     pages[page as usize] = *bytes;
     Ok(())
 }
 
-// Sends a piece, and keeps how much was sent before it.
-fn append(sent: &mut Vec<u8>, log: &mut Vec<Change>, piece: &[u8]) -> Result<(), Failed>
+// Sends a piece, and keeps how much was sent before it. Where there is no room for that, nothing is done.
+fn append(sent: &mut Vec<u8>, log: &mut ChangeLog, piece: &[u8]) -> Result<(), Failed>
     ensures sent { OnOk result (sent.new.items ≡ sent.old.items ++ piece.now) }
-    ensures log { OnOk result (log.new.items ≡ log.old.items ++ Change.SentSoFar (length sent.old.items) ∷ []) }
+    ensures log { OnOk result (log.new.changes.items ≡ log.old.changes.items ++ Change.SentSoFar (length sent.old.items) ∷ []) }
     ensures sent_err { OnErr result (sent.new.items ≡ sent.old.items) }
-    ensures log_err { OnErr result (log.new.items ≡ log.old.items) }
+    ensures log_err { OnErr result (log.new.changes.items ≡ log.old.changes.items) }
 {
     let before = sent.len();
     if sent.extend_from_slice(piece).is_err() {
         return Err(Failed);
     }
-    if log.push(Change::SentSoFar(before)).is_err() {
+    if log.push_sent(before).is_err() {
         sent.truncate(before);
         return Err(Failed);
     }
@@ -155,17 +251,19 @@ impl Board for MemoryBoard {
     }
 
     fn ext_program(&mut self, page: u16, from: &[u8; 256]) -> Result<(), Failed> {
-        if fails(&self.plan, &mut self.calls, self.stopped) || self.programs >= self.program_room {
+        if fails(&self.plan, &mut self.calls, self.stopped) {
             self.flash_faults = raised(self.flash_faults);
             return Err(Failed);
         }
-        self.programs += 1;
-        let stops = self.programs == self.plan.stop_at;
+        let stops = is_next(self.plan.stop_at, self.log.program_count());
         let bytes = if stops { self.plan.spoil } else { *from };
         let change = Change::ExtHeld(page, self.ext[page as usize]);
-        let done = replace(&mut self.ext, &mut self.log, page, &bytes, change);
-        if stops || done.is_err() {
-            self.stopped = stops;
+        if replace(&mut self.ext, &mut self.log, page, &bytes, change).is_err() {
+            self.flash_faults = raised(self.flash_faults);
+            return Err(Failed);
+        }
+        if stops {
+            self.stopped = true;
             self.flash_faults = raised(self.flash_faults);
             return Err(Failed);
         }
@@ -182,17 +280,19 @@ impl Board for MemoryBoard {
     }
 
     fn prog_program(&mut self, page: u16, from: &[u8; 256]) -> Result<(), Failed> {
-        if fails(&self.plan, &mut self.calls, self.stopped) || self.programs >= self.program_room {
+        if fails(&self.plan, &mut self.calls, self.stopped) {
             self.flash_faults = raised(self.flash_faults);
             return Err(Failed);
         }
-        self.programs += 1;
-        let stops = self.programs == self.plan.stop_at;
+        let stops = is_next(self.plan.stop_at, self.log.program_count());
         let bytes = if stops { self.plan.spoil } else { *from };
         let change = Change::ProgHeld(page, self.prog[page as usize]);
-        let done = replace(&mut self.prog, &mut self.log, page, &bytes, change);
-        if stops || done.is_err() {
-            self.stopped = stops;
+        if replace(&mut self.prog, &mut self.log, page, &bytes, change).is_err() {
+            self.flash_faults = raised(self.flash_faults);
+            return Err(Failed);
+        }
+        if stops {
+            self.stopped = true;
             self.flash_faults = raised(self.flash_faults);
             return Err(Failed);
         }
@@ -213,6 +313,13 @@ impl Board for MemoryBoard {
 
     fn send(&mut self, from: &[u8]) -> Result<usize, Failed> {
         if fails(&self.plan, &mut self.calls, self.stopped) {
+            self.line_faults = raised(self.line_faults);
+            return Err(Failed);
+        }
+        if from.is_empty() {
+            return Ok(0);
+        }
+        if from.len() > self.sent_room as usize - self.sent.len() {
             self.line_faults = raised(self.line_faults);
             return Err(Failed);
         }

@@ -1,4 +1,4 @@
-use Rattle.std.proofs.Common.{◌≡◌, ◌+◌, ◌≤◌, length, arith, slice_range}
+use Rattle.std.proofs.Common.{◌+◌, ◌≤◌, length, slice_range}
 use Rattle.avr_reloc.proofs.Fixups.{length-field}
 use Rattle.component_package.proofs.Steps.{padded}
 use Rattle.component_package.proofs.read.four_bytes.Goals as goal

@@ -1,6 +1,5 @@
-use Rattle.std.proofs.Common.{◌≡◌, None, rules, sym}
+use Rattle.std.proofs.Common.{rules, sym}
 use Rattle.avr_reloc.specs.Field.{AreBytes}
-use Rattle.component_package.specs.Reading.{package_fault}
 use Rattle.component_package.proofs.HeaderLemmas.{good_header}
 use Rattle.component_package.proofs.Steps.{faultless_parts}
 use Rattle.component_package.proofs.InGrammar.{spells}

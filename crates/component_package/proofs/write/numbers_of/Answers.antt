@@ -1,4 +1,4 @@
-use Rattle.std.proofs.Common.{◌<◌, length, arith, ap}
+use Rattle.std.proofs.Common.{◌<◌, length, arith}
 use Rattle.component_package.proofs.ReadAgain.{length-spelling}
 use Rattle.component_package.proofs.write.numbers_of.Goals as goal
 

@@ -1,5 +1,6 @@
 use Rattle.flash_pages.proofs.memory.MemoryBoardBoard.ext_program.Goals.{then-stops, else-stops}
-use Rattle.std.proofs.Common.{◌≡◌, ℕ, List, [], ap, arith}
+use Rattle.std.proofs.Common.{◌≡◌, ℕ, List, [], ap, sym, ◌∙◌, arith}
+use Rattle.std.proofs.lemmas.Bool.{false≢true}
 use Rattle.std.proofs.lemmas.List.{get_or_read}
 use Rattle.std.proofs.lemmas.Result.{on_ok_weaker, on_err_weaker}
 use Rattle.flash_pages.specs.State.{State, Ext}
@@ -12,26 +13,36 @@ returns-clause-programs c =
     let b = c.args.self.now in
     let was = get_or_read b.ext.items c.args.page c.index.result.now (omega (arith, b.ext_size)) c.index.ensures [] in
     let to_state : List (List ℕ) → State = λ e. record { prog = b.prog.items; ext = e; sent = b.sent.items } in
-    programs_result (Ext c.args.page) _ _ _ _ _ c.if-stops.bytes _ _ _ _ _ (ExtHeld c.args.page c.index.result.now) c.replace-done.result
-    (c.replace-done.ensures.size, c.replace-done.ensures.bytes) (ap (ExtHeld c.args.page) was) (omega arith)
-    (on_ok_weaker c.replace-done.result (λ e. ap to_state e) c.replace-done.ensures.pages) c.replace-done.ensures.log
-    (on_err_weaker c.replace-done.result (λ e. ap to_state e) c.replace-done.ensures.pages_err) c.replace-done.ensures.log_err
+    programs_result (Ext c.args.page) _ _ _ _ _ c.if-stops.bytes _ _ _ _ _ (ExtHeld c.args.page c.index.result.now) c.replace.result
+    (c.replace.ensures.size, c.replace.ensures.bytes) (ap (ExtHeld c.args.page) was) (omega arith)
+    (on_ok_weaker c.replace.result (λ e. ap to_state e) c.replace.ensures.pages) c.replace.ensures.log
+    (on_err_weaker c.replace.result (λ e. ap to_state e) c.replace.ensures.pages_err) c.replace.ensures.log_err
+
+pub returns-then-is_err-clause-programs : goal.returns-then-is_err-clause-programs
+returns-then-is_err-clause-programs c =
+    let b = c.args.self.now in
+    let was = get_or_read b.ext.items c.args.page c.index.result.now (omega (arith, b.ext_size)) c.index.ensures [] in
+    let to_state : List (List ℕ) → State = λ e. record { prog = b.prog.items; ext = e; sent = b.sent.items } in
+    programs_result (Ext c.args.page) _ _ _ _ _ c.if-stops.bytes _ _ _ _ _ (ExtHeld c.args.page c.index.result.now) c.replace.result
+    (c.replace.ensures.size, c.replace.ensures.bytes) (ap (ExtHeld c.args.page) was) c.raised-self-then-is_err.ensures.no_less
+    (on_ok_weaker c.replace.result (λ e. ap to_state e) c.replace.ensures.pages) c.replace.ensures.log
+    (on_err_weaker c.replace.result (λ e. ap to_state e) c.replace.ensures.pages_err) c.replace.ensures.log_err
 
 pub returns-then-stops-2-clause-programs : goal.returns-then-stops-2-clause-programs
 returns-then-stops-2-clause-programs c =
     let b = c.args.self.now in
     let was = get_or_read b.ext.items c.args.page c.index.result.now (omega (arith, b.ext_size)) c.index.ensures [] in
     let to_state : List (List ℕ) → State = λ e. record { prog = b.prog.items; ext = e; sent = b.sent.items } in
-    programs_result (Ext c.args.page) _ _ _ _ _ c.if-stops.bytes _ _ _ _ _ (ExtHeld c.args.page c.index.result.now) c.replace-done.result
-    (c.replace-done.ensures.size, c.replace-done.ensures.bytes) (ap (ExtHeld c.args.page) was) c.raised-self-then-stops-2.ensures.no_less
-    (on_ok_weaker c.replace-done.result (λ e. ap to_state e) c.replace-done.ensures.pages) c.replace-done.ensures.log
-    (on_err_weaker c.replace-done.result (λ e. ap to_state e) c.replace-done.ensures.pages_err) c.replace-done.ensures.log_err
+    programs_result (Ext c.args.page) _ _ _ _ _ c.if-stops.bytes _ _ _ _ _ (ExtHeld c.args.page c.index.result.now) c.replace.result
+    (c.replace.ensures.size, c.replace.ensures.bytes) (ap (ExtHeld c.args.page) was) c.raised-self-then-stops-2.ensures.no_less
+    (on_ok_weaker c.replace.result (λ e. ap to_state e) c.replace.ensures.pages) c.replace.ensures.log
+    (on_err_weaker c.replace.result (λ e. ap to_state e) c.replace.ensures.pages_err) c.replace.ensures.log_err
 
 pub returns-clause-ok : goal.returns-clause-ok
 returns-clause-ok c =
     let b = c.args.self.now in
     let was = get_or_read b.ext.items c.args.page c.index.result.now (omega (arith, b.ext_size)) c.index.ensures [] in
     let to_state : List (List ℕ) → State = λ e. record { prog = b.prog.items; ext = e; sent = b.sent.items } in
-    let bytes_are : c.if-stops.bytes ≡ c.args.from.now = elim c.if-stops.branch [ then-stops w ↦ absurd (c.if-stops-2.false w.if-stops.true) | else-stops w ↦ w.bytes-is ] in
+    let bytes_are : c.if-stops.bytes ≡ c.args.from.now = elim c.if-stops.branch [ then-stops w ↦ absurd (false≢true (sym c.if-stops-2.false ∙ w.if-stops.true)) | else-stops w ↦ w.bytes-is ] in
     programmed_result c.args.from.now (Ext c.args.page) _ _ _ _ _ c.if-stops.bytes _ _ _ _ (ExtHeld c.args.page c.index.result.now)
-    bytes_are (c.replace-done.ensures.size, c.replace-done.ensures.bytes) (ap (ExtHeld c.args.page) was) (ap to_state (at_ok c.replace-done.result c.if-is_err.ensures.value c.replace-done.ensures.pages)) (at_ok c.replace-done.result c.if-is_err.ensures.value c.replace-done.ensures.log)
+    bytes_are (c.replace.ensures.size, c.replace.ensures.bytes) (ap (ExtHeld c.args.page) was) (ap to_state (at_ok c.replace.result c.if-is_err.ensures.value c.replace.ensures.pages)) (at_ok c.replace.result c.if-is_err.ensures.value c.replace.ensures.log)

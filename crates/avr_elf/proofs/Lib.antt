@@ -1,0 +1,5 @@
+pub mod FirstLemmas
+pub mod Lists
+pub mod Sound
+pub mod ObjectLemmas
+pub mod WellFormedLemmas

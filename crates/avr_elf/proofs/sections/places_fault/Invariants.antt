@@ -1,0 +1,7 @@
+use Rattle.std.proofs.Common.{◌≡◌, None}
+use Rattle.avr_elf.specs.First.{first_of}
+use Rattle.avr_elf.specs.Faults.{place_fault}
+use Rattle.avr_elf.proofs.sections.places_fault.Given as goal
+
+abbrev pub invariant-loop-i : goal.invariant-loop-i
+invariant-loop-i l = first_of (place_fault l.file) l.i ≡ None

@@ -1,0 +1,12 @@
+pub mod Number
+pub mod First
+pub mod Header
+pub mod Section
+pub mod Entry
+pub mod FaultNumber
+pub mod Faults
+pub mod Object
+pub mod WellFormed
+pub mod Laws
+pub mod RelaTable
+pub mod View

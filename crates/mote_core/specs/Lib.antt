@@ -1,0 +1,4 @@
+pub mod Flashes
+pub mod Reading
+pub mod Running
+pub mod Parts

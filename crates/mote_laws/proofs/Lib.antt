@@ -1,0 +1,11 @@
+pub mod Kept
+pub mod Steps
+pub mod Programs
+pub mod Rows
+pub mod Runs
+pub mod Slots
+pub mod Stored
+pub mod Formatted
+pub mod Sets
+pub mod Stands
+mod WrongOrders

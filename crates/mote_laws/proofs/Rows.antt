@@ -1,0 +1,103 @@
+-- The rows of the mote machine, with what is known where each of them is taken.
+use Rattle.std.proofs.Common.{◌≡◌, ℕ, ◌<◌, Bool, true, false, not, cond, eqb, ltb, ◌+◌, ◌*◌, List, [], ◌∷◌, length, drop, Option, Some, None, is_some, refl, slice_get}
+use Rattle.std.specs.Prelude.{slice_index, slice_index_or, slice_set, slice_range}
+use Rattle.std.proofs.lemmas.Bool.{ltb-true, not-false}
+use Rattle.component_package.specs.declared.answer.Answer.{Answer}
+use Rattle.component_package.specs.declared.answer.Answer.TheVariants as answers
+use Rattle.component_package.specs.declared.manifest.ManifestFault.{ManifestFault}
+use Rattle.component_package.specs.Manifest.{Release, StoredRelease, Placed, manifest_fault, number_of_manifest_fault, release_in}
+use Rattle.component_package.specs.Store.{SetFault, Missing, BadPackage, set_fault, components_of, held_slot, is_same, slots_for}
+use Rattle.component_package.specs.Link.{Cause, FlashFull, RamFull, Symbols, Relocations, Duplicate, Undefined, Range, link_cause}
+use Rattle.component_package.specs.Frames.{Frame}
+use Rattle.component_package.specs.FirstMachine.{filled_page}
+use Rattle.component_package.specs.Machine.{Mote, Step, is_bad_frame, unless_standing, is_incoming, incoming_number, status_number, refuses, manifest_is, is_piece_of, with_page_of, cause_answer, take_manifest, take_piece, take_piece_of, store_piece, link_set, link_held, link_incoming, commit_incoming, step}
+use Rattle.mote_laws.specs.Runs.{is_served}
+
+-- what holds of the step in each row
+pub record Rows (s : Mote) (f : Frame) (P : Step → Type 0) : Type 0 where
+  pub refused : (a : Answer) → is_served a ≡ true → P (refuses s a)
+  pub booted : P (record { mote = record s { standing = false }; answer = answers.Booted s.current.number })
+  pub manifest : s.standing ≡ false → manifest_fault f.payload ≡ None → s.current.number < (release_in f.payload).number
+      → P (record { mote = record s { incoming = Some (slots_for s.current (release_in f.payload)); linked = false }; answer = manifest_is s (release_in f.payload) })
+  pub piece : (m : StoredRelease) (p : Placed) (k page : ℕ) (bytes : List ℕ) → s.standing ≡ false → s.incoming ≡ Some m → slice_get m.placed k ≡ Some p → is_some (held_slot s.current p.entry) ≡ false
+      → is_piece_of p.entry.length page bytes ≡ true
+      → P (record { mote = record s { store = slice_set s.store p.slot (with_page_of page bytes (slice_index_or s.store p.slot [])); linked = false }; answer = answers.Piece k page })
+  pub linked : (m : StoredRelease) → s.standing ≡ false → s.incoming ≡ Some m → s.linked ≡ false → set_fault s.store m ≡ None → link_cause (components_of s.store m) ≡ None
+      → P (record { mote = record s { linked = true }; answer = answers.Linked m.number })
+  pub committed : (m : StoredRelease) → s.standing ≡ false → s.incoming ≡ Some m → s.linked ≡ true
+      → P (record { mote = record s { current = m; incoming = None; linked = false; standing = true }; answer = answers.Committed m.number })
+  pub aborted : s.standing ≡ false → P (record { mote = record s { incoming = None; linked = false }; answer = answers.Aborted })
+
+-- the page is already so
+abbrev is_there : Mote → Placed → ℕ → List ℕ → Bool
+is_there s p page bytes = is_same (slice_range (slice_index_or s.store p.slot []) (256 * page) (256 * page + 256)) (filled_page bytes)
+
+-- a fact of both branches, with what the test says
+split : (P : Step → Type 0) (b : Bool) (x y : Step) → (b ≡ true → P x) → (b ≡ false → P y) → P (cond b x y)
+split P true x y then_x else_y = then_x refl
+split P false x y then_x else_y = else_y refl
+
+module _ (s : Mote) (f : Frame) (P : Step → Type 0) (rows : Rows s f P) where
+  manifest_row : (fault : Option ManifestFault) → manifest_fault f.payload ≡ fault → s.standing ≡ false → P (take_manifest s fault (release_in f.payload))
+  manifest_row (Some fault) is calm = rows.refused (answers.BadManifest (number_of_manifest_fault fault)) refl
+  manifest_row None is calm =
+      split P (not (ltb s.current.number (release_in f.payload).number)) _ _ (λ stale. rows.refused (answers.Stale s.current.number) refl) (λ above.
+      split P (is_incoming s.incoming (release_in f.payload)) _ _ (λ same. rows.refused (manifest_is s (release_in f.payload)) refl) (λ other.
+      rows.manifest calm is (ltb-true s.current.number (release_in f.payload).number (not-false (ltb s.current.number (release_in f.payload).number) above))))
+
+  piece_of_row : (payload : List ℕ) (m : StoredRelease) (p : Option Placed) → s.standing ≡ false → s.incoming ≡ Some m → slice_get m.placed (slice_index payload 0) ≡ p → P (take_piece_of s payload p)
+  piece_of_row payload m None calm coming is = rows.refused answers.BadPiece refl
+  piece_of_row payload m (Some p) calm coming is =
+      split P (is_piece_of p.entry.length (slice_index payload 1) (drop 2 payload)) _ _ (λ fits.
+      split P (is_some (held_slot s.current p.entry)) _ _ (λ held. rows.refused (answers.Held (slice_index payload 0)) refl) (λ new.
+      split P (is_there s p (slice_index payload 1) (drop 2 payload)) _ _ (λ same. rows.refused (answers.Piece (slice_index payload 0) (slice_index payload 1)) refl) (λ other.
+      rows.piece m p (slice_index payload 0) (slice_index payload 1) (drop 2 payload) calm coming is new fits)))
+      (λ unfit. rows.refused answers.BadPiece refl)
+
+  piece_row : (incoming : Option StoredRelease) → s.incoming ≡ incoming → s.standing ≡ false → P (take_piece s f.payload incoming)
+  piece_row None is calm = rows.refused answers.NoManifest refl
+  piece_row (Some m) is calm =
+      split P (ltb (length f.payload) 3) _ _ (λ short. rows.refused answers.BadPiece refl) (λ long. piece_of_row f.payload m (slice_get m.placed (slice_index f.payload 0)) calm is refl)
+
+  served_cause : (cause : Cause) → is_served (cause_answer cause) ≡ true
+  served_cause (FlashFull t) = refl
+  served_cause (RamFull t) = refl
+  served_cause (Symbols n) = refl
+  served_cause (Relocations n) = refl
+  served_cause (Duplicate a i j) = refl
+  served_cause (Undefined k r a) = refl
+  served_cause (Range k r c) = refl
+
+  set_row : (m : StoredRelease) (cause : Option Cause) → s.standing ≡ false → s.incoming ≡ Some m → s.linked ≡ false → set_fault s.store m ≡ None → link_cause (components_of s.store m) ≡ cause → P (link_set s m.number cause)
+  set_row m (Some cause) calm is unlinked whole caused = rows.refused (cause_answer cause) (served_cause cause)
+  set_row m None calm is unlinked whole caused = rows.linked m calm is unlinked whole caused
+
+  held_row : (m : StoredRelease) (fault : Option SetFault) → s.standing ≡ false → s.incoming ≡ Some m → s.linked ≡ false → set_fault s.store m ≡ fault → P (link_held s m fault)
+  held_row m (Some (Missing k)) calm is unlinked faulty = rows.refused (answers.Missing k) refl
+  held_row m (Some (BadPackage k n)) calm is unlinked faulty = rows.refused (answers.BadPackage k n) refl
+  held_row m None calm is unlinked whole = set_row m (link_cause (components_of s.store m)) calm is unlinked whole refl
+
+  link_row : (incoming : Option StoredRelease) → s.incoming ≡ incoming → s.standing ≡ false → P (link_incoming s incoming)
+  link_row None is calm = rows.refused answers.NoManifest refl
+  link_row (Some m) is calm = split P s.linked _ _ (λ linked. rows.refused (answers.Linked m.number) refl) (λ unlinked. held_row m (set_fault s.store m) calm is unlinked refl)
+
+  commit_row : (incoming : Option StoredRelease) → s.incoming ≡ incoming → s.standing ≡ false → P (commit_incoming s incoming)
+  commit_row None is calm = rows.refused answers.NoManifest refl
+  commit_row (Some m) is calm = split P s.linked _ _ (λ linked. rows.committed m calm is linked) (λ unlinked. rows.refused answers.NotLinked refl)
+
+  -- a row that a standing commit refuses
+  reboot : (x : Step) → (s.standing ≡ false → P x) → P (unless_standing s x)
+  reboot x calm = split P s.standing _ _ (λ stands. rows.refused (answers.Reboot s.current.number) refl) calm
+
+  -- the step is one of its rows
+  pub each_row : P (step s f)
+  each_row =
+      split P (is_bad_frame f) _ _ (λ bad. rows.refused (answers.BadFrame f.kind) refl) (λ good.
+      split P (eqb f.kind 1) _ _ (λ k. reboot _ (manifest_row (manifest_fault f.payload) refl)) (λ k.
+      split P (eqb f.kind 2) _ _ (λ k. reboot _ (piece_row s.incoming refl)) (λ k.
+      split P (eqb f.kind 3) _ _ (λ k. reboot _ (link_row s.incoming refl)) (λ k.
+      split P (eqb f.kind 4) _ _ (λ k. split P s.standing _ _ (λ stands. rows.refused (answers.Committed s.current.number) refl) (commit_row s.incoming refl)) (λ k.
+      split P (eqb f.kind 5) _ _ (λ k. rows.booted) (λ k.
+      split P (eqb f.kind 6) _ _ (λ k. rows.refused (answers.Status s.current.number (cond s.standing 0 (incoming_number s.incoming)) (status_number s)) refl) (λ k.
+      split P (eqb f.kind 7) _ _ (λ k. reboot _ rows.aborted) (λ k.
+      rows.refused answers.Ended refl))))))))

@@ -1,0 +1,121 @@
+//! Prints what the reader sees of an object: `show_object PATH`, or the object from standard input.
+//!
+//! A line for each section, symbol and relocation, or one line with the first fault. The status is 0
+//! where the object was read, 1 where it has a fault, and 2 where it is longer than objects are.
+#![tactic(auto)]
+
+use avr_elf::constants::MAX_FILE;
+use avr_elf::{ElfFault, ObjectView, read_object};
+use std::alloc::{AllocError, Global};
+use std::process::ExitCode;
+use std::{env, fs, io};
+
+/// A name, with each byte that isn't a visible ASCII character as two hexadecimal digits.
+fn text(alloc: Global, name: &[u8]) -> Result<String, AllocError> {
+    let mut out = String::new(alloc);
+    for b in name {
+        if b.is_ascii_graphic() && *b != b'"' && *b != b'\\' {
+            out.push(*b as char)?;
+        } else {
+            out.push_str(&format!(in alloc; "\\x{:02x}", *b)?)?;
+        }
+    }
+    Ok(out)
+}
+
+fn print_sections<W: io::Write>(
+    alloc: Global,
+    out: &mut W,
+    object: &ObjectView<'_>,
+) -> io::Result<()> {
+    for i in 0..object.section_count() {
+        let s = object.section(i);
+        let name = text(alloc, s.name)?;
+        let (kind, flags, size, align) = (s.kind, s.flags, s.size, s.align);
+        writeln!(
+            out,
+            "section {i} \"{name}\" type {kind} flags {flags} size {size} align {align}"
+        )?;
+    }
+    Ok(())
+}
+
+fn print_symbols<W: io::Write>(
+    alloc: Global,
+    out: &mut W,
+    object: &ObjectView<'_>,
+) -> io::Result<()> {
+    for i in 0..object.symbol_count() {
+        let s = object.symbol(i);
+        let name = text(alloc, s.name)?;
+        let (value, size, binding, kind, section) = (s.value, s.size, s.binding, s.kind, s.section);
+        writeln!(
+            out,
+            "symbol {i} \"{name}\" value {value} size {size} binding {binding} type {kind} section {section}"
+        )?;
+    }
+    Ok(())
+}
+
+fn print_relocations<W: io::Write>(out: &mut W, object: &ObjectView<'_>) -> io::Result<()> {
+    for section in 0..object.section_count() {
+        let relas = object.relas(section);
+        for i in 0..relas.len() {
+            let r = relas.get(i);
+            let (offset, kind, symbol, addend) = (r.offset, r.kind, r.symbol, r.addend);
+            writeln!(
+                out,
+                "relocation section {section} offset {offset} type {kind} symbol {symbol} addend {addend}"
+            )?;
+        }
+    }
+    Ok(())
+}
+
+fn print_fault<W: io::Write>(out: &mut W, fault: ElfFault) -> io::Result<()> {
+    let number = fault.number();
+    let at = fault.offset();
+    writeln!(out, "fault {number} at {at}: {fault}")
+}
+
+fn print_object<W: io::Write>(
+    alloc: Global,
+    out: &mut W,
+    object: &ObjectView<'_>,
+) -> io::Result<()> {
+    print_sections(alloc, out, object)?;
+    print_symbols(alloc, out, object)?;
+    print_relocations(out, object)
+}
+
+fn show(rt: &HostRuntime) -> io::Result<ExitCode> {
+    let file = match env::args(rt)?.nth(1) {
+        Some(path) => fs::read(rt, path.as_str())?,
+        None => {
+            let mut bytes = Vec::new(rt.alloc());
+            io::Read::read_to_end(&mut rt.stdin(), &mut bytes)?;
+            bytes
+        }
+    };
+    if file.len() > MAX_FILE {
+        eprintln!(rt; "show_object: an object has at most {MAX_FILE} bytes")?;
+        return Ok(ExitCode::from(2));
+    }
+    let mut out = io::BufWriter::new(rt.alloc(), rt.stdout())?;
+    let status = match read_object(&file) {
+        Ok(object) => {
+            print_object(rt.alloc(), &mut out, &object)?;
+            ExitCode::SUCCESS
+        }
+        Err(fault) => {
+            print_fault(&mut out, fault)?;
+            ExitCode::FAILURE
+        }
+    };
+    io::Write::flush(&mut out)?;
+    Ok(status)
+}
+
+fn main(rt: HostRuntime) -> io::Result<ExitCode> {
+    show(&rt)
+}
