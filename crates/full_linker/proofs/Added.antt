@@ -3,13 +3,14 @@ use Rattle.std.proofs.Common.{◌≡◌, ℕ, zero, suc, ◌+◌, ◌<◌, ◌�
 use Rattle.std.specs.Prelude.{slice_get, is_none, is_some, not, ◌||◌}
 use Rattle.std.specs.List.{list_any, find}
 use Rattle.std.proofs.lemmas.Bool.{cases_Bool, eqb-true}
-use Rattle.std.proofs.lemmas.List.{length-replicate, map-append, take_all, length-map, take-map, take_more}
+use Rattle.std.proofs.lemmas.List.{append-nil, length-replicate, map-append, take_all, length-map, take-map, take_more}
 use Rattle.std.proofs.lemmas.Option.{slice_get_within, get_or_from_slice_get}
 use Rattle.component_package.specs.declared.part.Export.{Export}
 use Rattle.component_package.specs.Link.{distinct}
 use Rattle.full_linker.specs.declared.symbols.Slot.{Slot}
 use Rattle.full_linker.specs.Slots.{slot_of, AreSlots, different_symbols}
 use Rattle.full_linker.proofs.Slots.{is_export_of, slot_other}
+use Rattle.full_linker.proofs.Basics.{self_equal}
 use Rattle.full_linker.proofs.Distinct.{occurs, distinct_push}
 
 -- ---- One export
@@ -33,10 +34,6 @@ set_length : {X : Type 0} (xs : List X) (i : ℕ) (x : X) → length (slice_set 
 set_length [] i x = refl
 set_length (y ∷ ys) zero x = refl
 set_length (y ∷ ys) (suc i) x = ap suc (set_length ys i x)
-
--- a number is equal to itself
-self_equal : (n : ℕ) → eqb n n ≡ true
-self_equal n = grind arith
 
 -- the slots with one export more
 pub slots_after : (xs : List (ℕ × Export)) (slots : List Slot) (x : ℕ × Export) (new : Slot) → x.1.symbol < 2 ^ 16 → AreSlots xs slots
@@ -92,17 +89,12 @@ pub record AreAdded (k : ℕ) (es : List Export) (old now : List Slot) (i count 
   pub counted : (xs : List (ℕ × Export)) → AreSlots xs old → different_symbols (xs ++ take i (paired k es)) ≡ different_symbols xs + count
   pub small : count ≤ i
 
--- nothing appended
-append_none : {X : Type 0} (xs : List X) → xs ++ [] ≡ xs
-append_none [] = refl
-append_none (x ∷ xs) = ap (λ ys. x ∷ ys) (append_none xs)
-
 -- before the first export
 pub added_none : (k : ℕ) (es : List Export) (old : List Slot) → length old ≡ 2 ^ 16 → AreAdded k es old old 0 0
 added_none k es old size = record {
   size = size;
-  slots = λ xs are. subst (λ ys. AreSlots ys old) (sym (append_none xs)) are;
-  counted = λ xs are. ap different_symbols (append_none xs) ∙ omega arith;
+  slots = λ xs are. subst (λ ys. AreSlots ys old) (sym (append-nil xs)) are;
+  counted = λ xs are. ap different_symbols (append-nil xs) ∙ omega arith;
   small = omega arith;
 }
 

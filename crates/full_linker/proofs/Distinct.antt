@@ -4,6 +4,7 @@ use Rattle.std.specs.Prelude.{◌||◌}
 use Rattle.std.specs.List.{list_any}
 use Rattle.std.proofs.lemmas.Bool.{cases_Bool, eqb-true}
 use Rattle.component_package.specs.Link.{distinct}
+use Rattle.full_linker.proofs.Basics.{self_equal}
 
 -- a symbol is in a list
 abbrev pub occurs : ℕ → List ℕ → Bool
@@ -12,10 +13,6 @@ occurs t ss = list_any (λ u. eqb u t) ss
 -- 1 where it is not
 abbrev pub one_if_new : ℕ → List ℕ → ℕ
 one_if_new t ss = cond (occurs t ss) 0 1
-
--- a number is equal to itself
-self_equal : (n : ℕ) → eqb n n ≡ true
-self_equal n = grind arith
 
 -- two numbers differ both ways
 eqb_sym : (m n : ℕ) → eqb m n ≡ false → eqb n m ≡ false

@@ -9,7 +9,7 @@ use Rattle.component_package.specs.Component.{Component}
 use Rattle.component_package.specs.Grammar.{IsComponent}
 use Rattle.component_package.specs.Link.{Duplicate, exports_of, symbols_of, is_strong_export_of, strong_exporters, least_of, first_two, duplicate_cause}
 use Rattle.full_linker.specs.Slots.{second_of, slot_of}
-use Rattle.full_linker.proofs.Slots.{find_some_filter}
+use Rattle.full_linker.proofs.Slots.{find_some_filter, none_found}
 use Rattle.link_laws.proofs.Table.{HasSymbol, exports_have_symbols}
 
 -- ---- The least number
@@ -39,10 +39,6 @@ least_is s (t ∷ ts) low any =
     ]
 
 -- ---- Filters
-
--- a number is equal to itself
-self_equal : (n : ℕ) → eqb n n ≡ true
-self_equal n = grind arith
 
 -- what passes the test is kept
 any_kept : (q : ℕ → Bool) (s : ℕ) (ss : List ℕ) → q s ≡ true → list_any (λ t. eqb t s) ss ≡ true → list_any (λ t. eqb t s) (filter q ss) ≡ true
@@ -128,11 +124,6 @@ pub no_duplicate : (set : List Component) → AllByRecursion IsComponent set →
 no_duplicate set components none =
     ap (λ (ss : List ℕ). option_and_then (λ t. first_two t (strong_exporters set t)) (least_of ss))
     (none_kept (has_two set) (2 ^ 16) (λ t lt. no_second (strong_exporters set t) (none t lt)) (symbols_of set) (symbols_small (exports_of set) (exports_have_symbols set components)))
-
--- where none is found, none passes
-none_found : {X : Type 0} (p : X → Bool) (xs : List X) → find p xs ≡ None → filter p xs ≡ []
-none_found p [] e = refl
-none_found p (x ∷ xs) e = elim (cases_Bool (p x)) [ inl hit ↦ absurd (let f = rw hit at e in cc) | inr miss ↦ rw miss (none_found p xs (rw miss at e)) ]
 
 -- without a first there is no second
 pub no_strong : (set : List Component) (t : ℕ) → (slot_of (exports_of set) t).strong ≡ None → second_at set t ≡ None

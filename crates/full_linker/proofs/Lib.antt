@@ -1,3 +1,4 @@
+pub mod Basics
 pub mod Numbered
 pub mod Slots
 pub mod Distinct

@@ -1,22 +1,19 @@
 -- One export more in its slot.
-use Rattle.std.proofs.Common.{◌≡◌, ℕ, inl, inr, Bool, true, false, eqb, List, [], ◌∷◌, ◌++◌, map, Option, Some, None, refl, sym, ap, ◌∙◌, arith}
+use Rattle.std.proofs.Common.{◌≡◌, ℕ, inl, inr, Bool, true, false, eqb, List, [], ◌∷◌, ◌++◌, map, Option, Some, None, refl, sym, ap, ◌∙◌}
 use Rattle.std.specs.Option.{option_or}
 use Rattle.std.specs.List.{find, filter}
 use Rattle.std.proofs.lemmas.Bool.{cases_Bool}
-use Rattle.std.proofs.lemmas.List.{map-append}
+use Rattle.std.proofs.lemmas.List.{append-nil, map-append}
 use Rattle.std.proofs.lemmas.List.Folds.{find-append}
 use Rattle.std.proofs.lemmas.List.Elements.{filter-append}
 use Rattle.component_package.specs.declared.part.Export.{Export}
 use Rattle.component_package.specs.Link.{is_strong_export_of}
+use Rattle.full_linker.proofs.Basics.{self_equal}
 use Rattle.full_linker.specs.Slots.{second_of, slot_of}
 
 -- an export of this symbol
 abbrev pub is_export_of : ℕ → (ℕ × Export) → Bool
 is_export_of s x = eqb x.1.symbol s
-
--- a number is equal to itself
-self_equal : (n : ℕ) → eqb n n ≡ true
-self_equal n = grind arith
 
 -- what one element more changes of what is found
 find_hit : {X : Type 0} (p : X → Bool) (xs : List X) (x : X) → p x ≡ true → find p (xs ++ x ∷ []) ≡ option_or (find p xs) (Some x)
@@ -31,23 +28,18 @@ option_or_none (Some x) = refl
 find_miss : {X : Type 0} (p : X → Bool) (xs : List X) (x : X) → p x ≡ false → find p (xs ++ x ∷ []) ≡ find p xs
 find_miss p xs x e = find-append p xs (x ∷ []) ∙ rw e (option_or_none (find p xs))
 
--- nothing appended
-append_none : {X : Type 0} (xs : List X) → xs ++ [] ≡ xs
-append_none [] = refl
-append_none (x ∷ xs) = ap (λ ys. x ∷ ys) (append_none xs)
-
 -- an element that fails the test is not kept
 filter_miss : {X : Type 0} (p : X → Bool) (xs : List X) (x : X) → p x ≡ false → filter p (xs ++ x ∷ []) ≡ filter p xs
-filter_miss p xs x e = filter-append p xs (x ∷ []) ∙ rw e (append_none (filter p xs))
+filter_miss p xs x e = filter-append p xs (x ∷ []) ∙ rw e (append-nil (filter p xs))
 
 -- one that passes is kept at the end
 filter_hit : {X : Type 0} (p : X → Bool) (xs : List X) (x : X) → p x ≡ true → filter p (xs ++ x ∷ []) ≡ filter p xs ++ x ∷ []
 filter_hit p xs x e = filter-append p xs (x ∷ []) ∙ rw e refl
 
 -- what is found first is the first of all
-find_none_filter : {X : Type 0} (p : X → Bool) (xs : List X) → find p xs ≡ None → filter p xs ≡ []
-find_none_filter p [] e = refl
-find_none_filter p (x ∷ xs) e = elim (cases_Bool (p x)) [ inl hit ↦ absurd (let f = rw hit at e in cc) | inr miss ↦ rw miss (find_none_filter p xs (rw miss at e)) ]
+pub none_found : {X : Type 0} (p : X → Bool) (xs : List X) → find p xs ≡ None → filter p xs ≡ []
+none_found p [] e = refl
+none_found p (x ∷ xs) e = elim (cases_Bool (p x)) [ inl hit ↦ absurd (let f = rw hit at e in cc) | inr miss ↦ rw miss (none_found p xs (rw miss at e)) ]
 
 -- the elements that pass begin with x
 pub record Starts {X : Type 0} (p : X → Bool) (xs : List X) (x : X) : Type 0 where
@@ -88,7 +80,7 @@ pub slot_strong : (xs : List (ℕ × Export)) (x : ℕ × Export) (s : ℕ) → 
 slot_strong xs x s e w none =
     let here : is_export_of s x ≡ true = rw e (self_equal s) in
     let strong : is_strong_export_of s x ≡ true = rw (here, w) refl in
-    let gone = find_none_filter (is_strong_export_of s) xs none in
+    let gone = none_found (is_strong_export_of s) xs none in
     rw (find_hit (is_export_of s) xs x here, find_hit (is_strong_export_of s) xs x strong, filter_hit (is_strong_export_of s) xs x strong, none, gone) refl
 
 -- a further one that is not weak can only be the second

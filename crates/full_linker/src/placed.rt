@@ -154,7 +154,7 @@ impl<'a> Placed<'a> {
         ensures possible { IfOk result (λ _. sites_cause self.now ≡ None) }
         ensures fault { IfErr result (λ f. Says f (sites_cause self.now)) }
     {
-        // The components of the set are those of the relocations.
+        // Where a field is read, the proof knows what holds of a placed set.
         let _ = &self.set;
         let mut fixups = Vec::new(alloc);
         for site in sites {

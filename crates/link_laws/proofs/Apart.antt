@@ -90,7 +90,7 @@ between true false b l n m b' l' n' m' t x v y w h1 h2 h3 h4 h5 h6 fx fy = inl (
 between true true b l n m b' l' n' m' t x v y w h1 h2 h3 h4 h5 h6 fx fy = inr (omega arith)
 
 -- a field has a byte
-width_positive : (s : Shape) → 0 < width_of s
+pub width_positive : (s : Shape) → 0 < width_of s
 width_positive shapes.Byte = omega arith
 width_positive shapes.Word = omega arith
 width_positive shapes.Long = omega arith

@@ -1,5 +1,5 @@
 -- For a set without a cause and its own table, the pages patched from the list are the set's pages.
-use Rattle.std.proofs.Common.{◌≡◌, ℕ, ◌+◌, ◌-◌, ◌<◌, ◌≤◌, inl, inr, Bool, true, false, eqb, List, [], ◌∷◌, ◌++◌, length, get_or, take, drop, map, replicate, Option, Some, None, refl, sym, ap, subst, ◌∙◌, arith, slice_range, length-append, length-drop}
+use Rattle.std.proofs.Common.{◌≡◌, ℕ, ◌+◌, ◌-◌, ◌≤◌, inl, inr, Bool, true, false, eqb, List, [], ◌∷◌, ◌++◌, length, get_or, take, drop, map, replicate, Option, Some, None, refl, sym, ap, subst, ◌∙◌, arith, slice_range, length-append, length-drop}
 use Rattle.std.specs.Prelude.{◌||◌, not, is_some}
 use Rattle.std.proofs.Math.Bool.{or-true}
 use Rattle.std.specs.Option.{option_map}
@@ -10,12 +10,11 @@ use Rattle.std.proofs.Math.ListN.{get_or-append}
 use Rattle.std.proofs.Math.Seq.{get_or-append_right}
 use Rattle.std.proofs.lemmas.List.Folds.{list_any-append}
 use Rattle.avr_reloc.specs.declared.fixup.Fixup.{Fixup}
-use Rattle.avr_reloc.specs.declared.kind.Shape.{Shape}
-use Rattle.avr_reloc.specs.declared.kind.Shape.TheVariants as shapes
 use Rattle.avr_reloc.specs.Kind.{shape_of, width_of}
 use Rattle.avr_reloc.specs.Field.{AreBytes}
 use Rattle.avr_reloc.specs.Fixups.{end_of, covers, field_of, HasField, ArePut}
 use Rattle.avr_reloc.proofs.Fixups.{ArePut-same}
+use Rattle.link_laws.proofs.Apart.{all_append, width_positive}
 use Rattle.component_package.specs.declared.part.Site.{Site}
 use Rattle.component_package.specs.declared.part.Export.{Export}
 use Rattle.component_package.specs.Component.{Component}
@@ -91,7 +90,7 @@ any_parts p q (x ∷ xs) =
     ]
 
 -- a test of mapped elements
-any_map : {X Y : Type 0} (p : Y → Bool) (f : X → Y) (xs : List X) → list_any p (map f xs) ≡ list_any (λ x. p (f x)) xs
+pub any_map : {X Y : Type 0} (p : Y → Bool) (f : X → Y) (xs : List X) → list_any p (map f xs) ≡ list_any (λ x. p (f x)) xs
 any_map p f [] = refl
 any_map p f (x ∷ xs) = ap (λ (b : Bool). p (f x) || b) (any_map p f xs)
 
@@ -99,11 +98,6 @@ any_map p f (x ∷ xs) = ap (λ (b : Bool). p (f x) || b) (any_map p f xs)
 all_filter : {X : Type 0} (P : X → Type 0) (q : X → Bool) (xs : List X) → AllByRecursion P xs → AllByRecursion P (filter q xs)
 all_filter P q [] all = tt
 all_filter P q (x ∷ xs) all = elim (cases_Bool (q x)) [ inl e ↦ rw e (all.0, all_filter P q xs all.1) | inr e ↦ rw e (all_filter P q xs all.1) ]
-
--- what holds of two lists holds of both together
-all_append : {X : Type 0} (P : X → Type 0) (xs ys : List X) → AllByRecursion P xs → AllByRecursion P ys → AllByRecursion P (xs ++ ys)
-all_append P [] ys a b = b
-all_append P (x ∷ xs) ys a b = (a.0, all_append P xs ys a.1 b)
 
 -- what holds of mapped elements
 all_map : {X Y : Type 0} (P : Y → Type 0) (f : X → Y) (xs : List X) → AllByRecursion (λ x. P (f x)) xs → AllByRecursion P (map f xs)
@@ -137,18 +131,6 @@ ArePut-ordered f xs old new put = record {
 }
 
 -- ---- bytes behind
-
--- a field has a byte
-width_positive : (s : Shape) → 0 < width_of s
-width_positive shapes.Byte = omega arith
-width_positive shapes.Word = omega arith
-width_positive shapes.Long = omega arith
-width_positive shapes.Immediate = omega arith
-width_positive shapes.Branch = omega arith
-width_positive shapes.Jump = omega arith
-width_positive shapes.Call = omega arith
-width_positive shapes.Displacement = omega arith
-width_positive shapes.Adiw = omega arith
 
 -- a field of its whole width lies in the bytes
 pub field_inside : (b : List ℕ) (x : Fixup) → length (field_of b x) ≡ width_of (shape_of x.kind) → end_of x ≤ length b

@@ -4,3 +4,4 @@ pub mod Listed
 pub mod Table
 pub mod Room
 pub mod Own
+pub mod Few

@@ -172,7 +172,7 @@ ordered_length xs =
     )
 
 -- no cause above a limit
-not_above : (limit : ℕ) (f : ℕ → Cause) (n : ℕ) (b : Bool) → nat_lt limit n ≡ b → above limit f n ≡ None → n ≤ limit
+pub not_above : (limit : ℕ) (f : ℕ → Cause) (n : ℕ) (b : Bool) → nat_lt limit n ≡ b → above limit f n ≡ None → n ≤ limit
 not_above limit f n true e none = absurd (let g = rw e at none in cc)
 not_above limit f n false e none = ltb-false limit n e
 

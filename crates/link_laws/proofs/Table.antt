@@ -36,7 +36,7 @@ find_has p P (y ∷ ys) x all e =
     ]
 
 -- one of two
-either : {X : Type 0} (a b : Option X) (x : X) → option_or a b ≡ Some x → (a ≡ Some x) ⊎ (b ≡ Some x)
+pub either : {X : Type 0} (a b : Option X) (x : X) → option_or a b ≡ Some x → (a ≡ Some x) ⊎ (b ≡ Some x)
 either None b x e = inr e
 either (Some y) b x e = inl e
 
@@ -151,7 +151,7 @@ and_any s None rs any = any
 and_any s (Some r) rs any = elim (cases_Bool (eqb r.symbol s)) [ inl hit ↦ rw hit refl | inr miss ↦ rw miss any ]
 
 -- a symbol is equal to itself
-same_symbol : (s : ℕ) → eqb s s ≡ true
+pub same_symbol : (s : ℕ) → eqb s s ≡ true
 same_symbol s = grind arith
 
 -- a defined symbol has its record

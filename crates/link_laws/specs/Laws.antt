@@ -5,7 +5,7 @@ use Rattle.avr_reloc.specs.declared.fixup.Fixup.{Fixup}
 use Rattle.avr_reloc.specs.Fixups.{AreApart}
 use Rattle.component_package.specs.Component.{Component}
 use Rattle.component_package.specs.Link.{Cause, link_cause, room_cause, rooms_of, plain_of, fixups_of, IsImage}
-use Rattle.component_package.specs.Areas.{MergedSymbol, IsSymbol, FieldsRise, list_bytes, Lists}
+use Rattle.component_package.specs.Areas.{MergedSymbol, IsSymbol, table_bytes, Tells, FieldsRise, list_bytes, Lists}
 use Rattle.component_package.specs.Pages.{IsTableOf, listed, IsFitting, IsPatched, IsPages}
 use Rattle.link_laws.specs.Sets.{IsSet}
 
@@ -43,6 +43,10 @@ abbrev pub TableHasRoom : Type 0
 TableHasRoom =
     (set : List Component) (table : List MergedSymbol) → IsSet set → room_cause (rooms_of set) ≡ None → IsTableOf set table
     → AllByRecursion IsSymbol table
+
+-- the own table of a set without a cause is a symbol table
+abbrev pub OwnTableTells : Type 0
+OwnTableTells = (set : List Component) (table : List MergedSymbol) → IsSet set → link_cause set ≡ None → IsTableOf set table → Tells (table_bytes table) table
 
 -- ---- Lists
 

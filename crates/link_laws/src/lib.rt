@@ -3,7 +3,7 @@
 //! The laws speak of the definitions alone. Each function does nothing, and its contract is the law.
 #![tactic(auto)]
 
-ghost use Rattle.link_laws.specs.Laws.{FieldsAreApart, ImageExistsOnce, TableExistsOnce, TableHasRoom};
+ghost use Rattle.link_laws.specs.Laws.{FieldsAreApart, ImageExistsOnce, TableExistsOnce, TableHasRoom, OwnTableTells};
 ghost use Rattle.link_laws.specs.Laws.{ListRises, ListHasRoom, OwnListFits, FittingListHasPages, OwnListGivesPages};
 
 /// No two fields of a set share a byte.
@@ -24,6 +24,11 @@ pub fn table_exists_once()
 /// The numbers of a set's own table have room in the symbol area, if the set has room in flash and RAM.
 pub fn table_has_room()
     ensures { TableHasRoom }
+{}
+
+/// The own table of a set that nothing refuses is a symbol table, of at most 1,024 records.
+pub fn own_table_tells()
+    ensures { OwnTableTells }
 {}
 
 /// The relocation list made from a set and any table rises, and no field in it begins inside another.

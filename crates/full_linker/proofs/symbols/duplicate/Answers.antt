@@ -22,10 +22,10 @@ pub loop-symbol-preserved : goal.loop-symbol-preserved
 loop-symbol-preserved c = λ set are t lt.
     let s = c.loop-symbol.symbol in
     let small : s < 2 ^ 16 = omega (arith, c.requires, c.loop-symbol-test.true) in
-    let at = get_or_from_slice_get c.args.slots.now s (slot_of (exports_of set) s) _ (are.each s small) in
     elim (cases_lt t s) [
       | inl before ↦ c.loop-symbol.invariant set are t before
       | inr here ↦ let same : s ≡ t = omega (arith, lt, here) in
+          let at = get_or_from_slice_get c.args.slots.now s (slot_of (exports_of set) s) _ (are.each s small) in
           subst (λ n. second_at set n ≡ None) same (elim c.match-slot.branch [
             | in-Some+in_default-second w ↦ ap (λ (z : Slot). z.second) (sym at) ∙ none_of _ w.in_default-second.not-Some
             | in_default w ↦ no_strong set s (ap (λ (z : Slot). z.strong) (sym at) ∙ none_of _ w.in_default.not-Some)
