@@ -5,6 +5,7 @@ use Rattle.component_package.specs.declared.part.Export.{Export}
 use Rattle.component_package.specs.Link.{is_strong_export_of, distinct}
 use Rattle.full_linker.specs.declared.symbols.Slot.{Slot}
 
+-- the second of a list, if there is one
 abbrev pub second_of : List ℕ → Option ℕ
 second_of [] = None
 second_of (i ∷ []) = None
