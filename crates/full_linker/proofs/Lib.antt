@@ -1,0 +1,12 @@
+pub mod Basics
+pub mod Numbered
+pub mod Slots
+pub mod Distinct
+pub mod Least
+pub mod Added
+pub mod Collected
+pub mod Views
+pub mod Done
+pub mod Addresses
+pub mod Causes
+pub mod Different
