@@ -1,0 +1,4 @@
+pub mod Slots
+pub mod Pieces
+pub mod Reader
+pub mod Packages
