@@ -7,6 +7,7 @@
 mod package;
 mod piece;
 mod reader;
+mod records;
 mod set;
 mod slots;
 

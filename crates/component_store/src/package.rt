@@ -1,20 +1,20 @@
 //! Checking the package in a slot.
 
-ghost use Rattle.std.specs.Prelude.{◌≡◌, ◌↔◌, ◌≤◌, ◌<◌, ◌+◌, ◌*◌, true, false, IsTrue, IfOk, OnErr, IsOk, OnOk, length, take, Some};
-ghost use Rattle.std.specs.Result.{result_err};
+ghost use Rattle.std.specs.Prelude.{◌≡◌, ◌↔◌, ◌≤◌, ◌<◌, ◌+◌, ◌*◌, true, false, IsTrue, IfOk, OnErr, OnOk, take, Some};
+ghost use Rattle.std.specs.Option.{option_map};
 ghost use Rattle.sha2.specs.Sha256.{sha256};
 ghost use Rattle.flash_pages.specs.State.{State};
 ghost use Rattle.flash_pages.specs.Board.{View, Reads, Rose};
-ghost use Rattle.component_package.specs.Manifest.{IsManifestEntry};
 ghost use Rattle.component_package.specs.Reading.{header_of, header_fault, exports_fault, relocs_fault, has_even_lengths, total_of};
-ghost use Rattle.component_package.specs.Store.{slot_at};
+ghost use Rattle.component_store.specs.declared.set.StoreFault.TheVariants.{Package};
 ghost use Rattle.component_store.specs.Pieces.{is_fault};
-ghost use Rattle.component_store.specs.Packages.{package_answer, FaultIs};
-ghost use Rattle.component_store.specs.Reader.{Keeps};
+ghost use Rattle.component_store.specs.Packages.{is_of, package_answer, FaultIs};
+ghost use Rattle.component_store.specs.Reader.{Keeps, IsUnder, held_bytes, held_package};
 
+use crate::records::{export_raw, field_raw, reloc_raw};
 use crate::reader::SlotReader;
 use crate::set::StoreFault;
-use component_package::{Entry, Header, PackageFault};
+use component_package::{Entry, Header, check_export, check_reloc, read_header};
 use flash_pages::{Board, Failed};
 use sha2::{Digest, Sha256};
 
@@ -34,7 +34,7 @@ pub fn check<B: Board>(
     requires slot { slot < 32 }
     requires least { 32 ≤ size }
     requires most { size ≤ 9984 }
-    ensures answer { IfOk result (λ b. (s : State) → (B.view board.old).state ≡ Some s → IsTrue b ↔ (sha256 (take size (slot_at s.ext slot)) ≡ digest.now)) }
+    ensures answer { IfOk result (λ b. (s : State) → (B.view board.old).state ≡ Some s → IsTrue b ↔ (sha256 (held_bytes s slot size) ≡ digest.now)) }
     ensures reads { Reads (B.view board.old) (B.view board.new) }
     ensures no_fault { OnOk result ((B.view board.new).flash_faults ≡ (B.view board.old).flash_faults) }
     ensures failed { OnErr result (Rose (B.view board.old).flash_faults (B.view board.new).flash_faults) }
@@ -47,8 +47,68 @@ pub fn check<B: Board>(
         reader.read(board, 256 * i as u32, &mut page)?;
         hasher.update(page.as_slice());
     }
+    // The last page, of which the package has a part.
     let rest = &mut page[..(size % 256) as usize];
     reader.read(board, 256 * whole as u32, rest)?;
     hasher.update(&*rest);
     Ok(is_same(&hasher.finalize(), digest))
+}
+
+// The header of a package of `size` bytes in a slot, or what is wrong with it.
+fn stored_header<B: Board>(
+    board: &mut B,
+    table: &mut SlotReader,
+    size: u16,
+) -> Result<Header, StoreFault>
+    requires slot { table.old.slot < 32 }
+    requires least { 32 ≤ size }
+    requires most { size ≤ 9984 }
+    ensures answer { is_fault result ≡ false → (s : State) → (B.view board.old).state ≡ Some s → Keeps s table.old →
+        FaultIs result (option_map Package (header_fault (held_bytes s table.old.slot 32) size)) }
+    ensures header { IfOk result (λ h. (s : State) → (B.view board.old).state ≡ Some s → Keeps s table.old → h ≡ header_of (held_bytes s table.old.slot 32)) }
+    ensures even { IfOk result (λ h. IsTrue (has_even_lengths h)) }
+    ensures total { IfOk result (λ h. total_of h ≡ size) }
+    ensures keeps { OnOk result ((s : State) → (B.view board.old).state ≡ Some s → Keeps s table.old → Keeps s table.new) }
+    ensures slot { table.new.slot ≡ table.old.slot }
+    ensures reads { Reads (B.view board.old) (B.view board.new) }
+    ensures no_fault { is_fault result ≡ false → (B.view board.new).flash_faults ≡ (B.view board.old).flash_faults }
+    ensures failed { is_fault result ≡ true → Rose (B.view board.old).flash_faults (B.view board.new).flash_faults }
+{
+    let mut raw = [0; 32];
+    let Ok(()) = table.read(board, 0, &mut raw) else {
+        return Err(StoreFault::Fault);
+    };
+    match read_header(&raw, size as u32) {
+        Ok(header) => Ok(header),
+        Err(fault) => Err(StoreFault::Package(fault)),
+    }
+}
+
+// What is wrong with the exports of a slot's package.
+fn check_exports<B: Board>(
+    board: &mut B,
+    table: &mut SlotReader,
+    h: &Header,
+) -> Result<(), StoreFault>
+    requires slot { table.old.slot < 32 }
+    requires whole { total_of h.now ≤ 9984 }
+    ensures answer { is_fault result ≡ false → (s : State) → (B.view board.old).state ≡ Some s → IsUnder s table.old h.now →
+        FaultIs result (option_map Package (exports_fault (held_package s table.old.slot h.now))) }
+    ensures keeps { OnOk result ((s : State) → (B.view board.old).state ≡ Some s → IsUnder s table.old h.now → IsUnder s table.new h.now) }
+    ensures slot { table.new.slot ≡ table.old.slot }
+    ensures reads { Reads (B.view board.old) (B.view board.new) }
+    ensures no_fault { is_fault result ≡ false → (B.view board.new).flash_faults ≡ (B.view board.old).flash_faults }
+    ensures failed { is_fault result ≡ true → Rose (B.view board.old).flash_faults (B.view board.new).flash_faults }
+{
+    let mut before = None;
+    for i in 0..h.exports {
+        let Ok(raw) = export_raw(board, table, h, i) else {
+            return Err(StoreFault::Fault);
+        };
+        match check_export(h, before, i, &raw) {
+            Ok(export) => before = Some(export.symbol),
+            Err(fault) => return Err(StoreFault::Package(fault)),
+        }
+    }
+    Ok(())
 }
