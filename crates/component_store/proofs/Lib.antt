@@ -1,3 +1,5 @@
 pub mod SlotLemmas
 pub mod Calls
 pub mod SlotBytes
+pub mod HeldLemmas
+pub mod OpenLemmas

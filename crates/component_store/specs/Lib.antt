@@ -2,3 +2,4 @@ pub mod Slots
 pub mod Pieces
 pub mod Reader
 pub mod Packages
+pub mod Sets

@@ -4,6 +4,7 @@
 //! than two pages: a package is read where it lies, page by page. Every call that only reads leaves the board as it was.
 #![tactic(auto)]
 
+mod open;
 mod package;
 mod piece;
 mod reader;
@@ -11,7 +12,8 @@ mod records;
 mod set;
 mod slots;
 
-pub use package::check;
+pub use open::open_set;
+pub use package::{check, check_package};
 pub use piece::{piece_differs, put_piece};
 pub use set::{SetFault, StoreFault, StoredSet};
 pub use slots::{is_held, slot_for};

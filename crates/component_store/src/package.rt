@@ -1,6 +1,6 @@
 //! Checking the package in a slot.
 
-ghost use Rattle.std.specs.Prelude.{◌≡◌, ◌↔◌, ◌≤◌, ◌<◌, ◌+◌, ◌*◌, true, false, IsTrue, IfOk, OnErr, OnOk, take, Some};
+ghost use Rattle.std.specs.Prelude.{◌≡◌, ◌↔◌, ◌≤◌, ◌<◌, ◌+◌, ◌*◌, true, false, IsTrue, IfOk, IfErr, OnErr, OnOk, take, Some};
 ghost use Rattle.std.specs.Option.{option_map};
 ghost use Rattle.sha2.specs.Sha256.{sha256};
 ghost use Rattle.flash_pages.specs.State.{State};
@@ -8,7 +8,7 @@ ghost use Rattle.flash_pages.specs.Board.{View, Reads, Rose};
 ghost use Rattle.component_package.specs.Reading.{header_of, header_fault, exports_fault, relocs_fault, has_even_lengths, total_of};
 ghost use Rattle.component_store.specs.declared.set.StoreFault.TheVariants.{Package};
 ghost use Rattle.component_store.specs.Pieces.{is_fault};
-ghost use Rattle.component_store.specs.Packages.{is_of, package_answer, FaultIs};
+ghost use Rattle.component_store.specs.Packages.{is_of, package_answer, records_fault, is_of_package, FaultIs};
 ghost use Rattle.component_store.specs.Reader.{Keeps, IsUnder, held_bytes, held_package};
 
 use crate::records::{export_raw, field_raw, reloc_raw};
@@ -70,6 +70,7 @@ fn stored_header<B: Board>(
     ensures total { IfOk result (λ h. total_of h ≡ size) }
     ensures keeps { OnOk result ((s : State) → (B.view board.old).state ≡ Some s → Keeps s table.old → Keeps s table.new) }
     ensures slot { table.new.slot ≡ table.old.slot }
+    ensures kinds { IfErr result (λ f. is_of_package f ≡ true) }
     ensures reads { Reads (B.view board.old) (B.view board.new) }
     ensures no_fault { is_fault result ≡ false → (B.view board.new).flash_faults ≡ (B.view board.old).flash_faults }
     ensures failed { is_fault result ≡ true → Rose (B.view board.old).flash_faults (B.view board.new).flash_faults }
@@ -96,6 +97,7 @@ fn check_exports<B: Board>(
         FaultIs result (option_map Package (exports_fault (held_package s table.old.slot h.now))) }
     ensures keeps { OnOk result ((s : State) → (B.view board.old).state ≡ Some s → IsUnder s table.old h.now → IsUnder s table.new h.now) }
     ensures slot { table.new.slot ≡ table.old.slot }
+    ensures kinds { IfErr result (λ f. is_of_package f ≡ true) }
     ensures reads { Reads (B.view board.old) (B.view board.new) }
     ensures no_fault { is_fault result ≡ false → (B.view board.new).flash_faults ≡ (B.view board.old).flash_faults }
     ensures failed { is_fault result ≡ true → Rose (B.view board.old).flash_faults (B.view board.new).flash_faults }
@@ -111,4 +113,102 @@ fn check_exports<B: Board>(
         }
     }
     Ok(())
+}
+
+// What is wrong with the relocations of a slot's package.
+fn check_relocs<B: Board>(
+    board: &mut B,
+    table: &mut SlotReader,
+    h: &Header,
+) -> Result<(), StoreFault>
+    requires slot { table.old.slot < 32 }
+    requires whole { total_of h.now ≤ 9984 }
+    ensures answer { is_fault result ≡ false → (s : State) → (B.view board.old).state ≡ Some s → IsUnder s table.old h.now →
+        FaultIs result (option_map Package (relocs_fault (held_package s table.old.slot h.now))) }
+    ensures kinds { IfErr result (λ f. is_of_package f ≡ true) }
+    ensures reads { Reads (B.view board.old) (B.view board.new) }
+    ensures no_fault { is_fault result ≡ false → (B.view board.new).flash_faults ≡ (B.view board.old).flash_faults }
+    ensures failed { is_fault result ≡ true → Rose (B.view board.old).flash_faults (B.view board.new).flash_faults }
+{
+    // The fields rise too, so they have a reader of their own.
+    let mut fields = SlotReader::new(table.slot);
+    let mut before = None;
+    for i in 0..h.relocs {
+        let Ok(raw) = reloc_raw(board, table, h, i) else {
+            return Err(StoreFault::Fault);
+        };
+        let Ok(field) = field_raw(board, &mut fields, h, &raw) else {
+            return Err(StoreFault::Fault);
+        };
+        match check_reloc(h, before.as_ref(), i, &raw, &field) {
+            Ok(reloc) => before = Some(reloc),
+            Err(fault) => return Err(StoreFault::Package(fault)),
+        }
+    }
+    Ok(())
+}
+
+// Whether a package with this header is of the entry's component and version.
+fn is_of(e: &Entry, h: &Header) -> bool
+    ensures { result ≡ is_of e.now h.now }
+{
+    h.component == e.component && h.version == e.version
+}
+
+// What is wrong with a package with this header, apart from its component and version.
+fn check_records<B: Board>(
+    board: &mut B,
+    table: &mut SlotReader,
+    h: &Header,
+) -> Result<(), StoreFault>
+    requires slot { table.old.slot < 32 }
+    requires whole { total_of h.now ≤ 9984 }
+    ensures answer { is_fault result ≡ false → (s : State) → (B.view board.old).state ≡ Some s → IsUnder s table.old h.now →
+        FaultIs result (option_map Package (records_fault (held_package s table.old.slot h.now))) }
+    ensures kinds { IfErr result (λ f. is_of_package f ≡ true) }
+    ensures reads { Reads (B.view board.old) (B.view board.new) }
+    ensures no_fault { is_fault result ≡ false → (B.view board.new).flash_faults ≡ (B.view board.old).flash_faults }
+    ensures failed { is_fault result ≡ true → Rose (B.view board.old).flash_faults (B.view board.new).flash_faults }
+{
+    match check_exports(board, table, h) {
+        Ok(()) => {}
+        Err(fault) => return Err(fault),
+    }
+    match check_relocs(board, table, h) {
+        Ok(()) => Ok(()),
+        Err(fault) => Err(fault),
+    }
+}
+
+/// The header of the entry's package in a slot, which is read where it lies, each of its pages three times at most.
+///
+/// `Package` comes exactly where the slot's first bytes, as many as the entry says, are no package, with their first fault. `Identity` comes
+/// exactly where they are one and its component or version isn't the entry's. `Fault` comes only where flash faults rose.
+pub fn check_package<B: Board>(board: &mut B, slot: u8, e: &Entry) -> Result<Header, StoreFault>
+    requires slot { slot < 32 }
+    requires least { 32 ≤ e.now.length }
+    requires most { e.now.length ≤ 9984 }
+    ensures answer { is_fault result ≡ false → (s : State) → (B.view board.old).state ≡ Some s → FaultIs result (package_answer e.now (held_bytes s slot e.now.length)) }
+    ensures header { IfOk result (λ h. (s : State) → (B.view board.old).state ≡ Some s → h ≡ header_of (held_bytes s slot e.now.length)) }
+    ensures kinds { IfErr result (λ f. is_of_package f ≡ true) }
+    // On every board, so that a set that is answered meets the conditions of the calls that take one.
+    ensures even { IfOk result (λ h. IsTrue (has_even_lengths h)) }
+    ensures total { IfOk result (λ h. total_of h ≡ e.now.length) }
+    ensures reads { Reads (B.view board.old) (B.view board.new) }
+    ensures no_fault { is_fault result ≡ false → (B.view board.new).flash_faults ≡ (B.view board.old).flash_faults }
+    ensures failed { is_fault result ≡ true → Rose (B.view board.old).flash_faults (B.view board.new).flash_faults }
+{
+    let mut table = SlotReader::new(slot);
+    let header = match stored_header(board, &mut table, e.length) {
+        Ok(header) => header,
+        Err(fault) => return Err(fault),
+    };
+    match check_records(board, &mut table, &header) {
+        Ok(()) => {}
+        Err(fault) => return Err(fault),
+    }
+    if !is_of(e, &header) {
+        return Err(StoreFault::Identity);
+    }
+    Ok(header)
 }
