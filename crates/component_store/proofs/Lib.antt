@@ -3,3 +3,4 @@ pub mod Calls
 pub mod SlotBytes
 pub mod HeldLemmas
 pub mod OpenLemmas
+pub mod PartLemmas

@@ -1,5 +1,5 @@
 -- What is missing or bad, entry by entry.
-use Rattle.std.proofs.Common.{◌≡◌, ◌≢◌, ◌⊎◌, inl, inr, ℕ, zero, suc, ◌+◌, ◌-◌, ◌*◌, ◌<◌, ◌≤◌, Bool, true, false, cond, eqb, Option, Some, None, List, [], ◌∷◌, length, take, get_or, set, refl, sym, ap, ap₂, subst, ◌∙◌, arith}
+use Rattle.std.proofs.Common.{◌≡◌, ◌≢◌, ◌⊎◌, inl, inr, ℕ, zero, suc, ◌+◌, ◌-◌, ◌*◌, ◌<◌, ◌≤◌, Bool, true, false, cond, eqb, Option, Some, None, Err, List, [], ◌∷◌, length, take, get_or, set, refl, sym, ap, ap₂, subst, ◌∙◌, arith}
 use Rattle.std.specs.Prelude.{slice_get, not, IsTrue, ◌↔◌}
 use Rattle.std.specs.Option.{option_or, option_map, option_and_then}
 use Rattle.std.specs.List.{AllByRecursion}
@@ -15,10 +15,13 @@ use Rattle.component_package.specs.Store.{slots_of, package_in, is_same, is_miss
 use Rattle.component_package.proofs.Lists.{all_at}
 use Rattle.component_package.proofs.StoredLemmas.{pair_at, the_placed}
 use Rattle.component_store.specs.declared.set.StoreFault.{StoreFault}
-use Rattle.component_store.specs.declared.set.StoreFault.TheVariants.{Package, Identity}
+use Rattle.component_store.specs.declared.set.StoreFault.TheVariants.{Fault, Page, PieceLength, Package, Identity}
 use Rattle.component_store.specs.Reader.{held_bytes}
 use Rattle.component_store.specs.Packages.{is_of, package_answer}
-use Rattle.component_store.specs.Sets.{number_of_stored_fault}
+use Rattle.component_store.specs.Sets.{number_of_stored_fault, is_set_fault, SetFaultIs}
+use Rattle.component_store.specs.Pieces.{is_fault}
+use Rattle.component_store.specs.declared.set.SetFault as sets
+use Rattle.component_store.specs.declared.set.SetFault.TheVariants as set_faults
 use Rattle.component_store.proofs.SlotLemmas.{decides}
 use Rattle.component_store.proofs.SlotBytes.{slot_is}
 
@@ -79,7 +82,7 @@ or_none None = refl
 or_none (Some x) = refl
 
 further : {F : Type 0} (f : ℕ → Option F) (n k : ℕ) → ((i : ℕ) → n ≤ i → f i ≡ None) → first_fault f (n + k) ≡ first_fault f n
-further f n zero none = ap (first_fault f) (omega arith)
+further f n zero none = let same : n + 0 ≡ n = omega arith in ap (first_fault f) same
 further f n (suc k) none =
     let more : n + suc k ≡ suc (n + k) = omega arith in
     ap (first_fault f) more ∙ ap (option_or (first_fault f (n + k))) (none (n + k) (omega arith)) ∙ or_none (first_fault f (n + k)) ∙ further f n k none
@@ -113,3 +116,24 @@ set_or_kept (z ∷ zs) (suc i) (suc j) x y at = go (set_or_kept zs i j x y at)
     go : ((j ≡ i) × (y ≡ x)) ⊎ ((j ≢ i) × (slice_get zs j ≡ Some y)) → ((suc j ≡ suc i) × (y ≡ x)) ⊎ ((suc j ≢ suc i) × (slice_get (z ∷ zs) (suc j) ≡ Some y))
     go (inl both) = inl (ap suc both.0, both.1)
     go (inr both) = inr ((λ same. both.0 (omega arith)), both.1)
+
+-- ---- answers, from one type to another
+
+-- a fault with a number is none of the board
+pub numbered : (f : StoreFault) (n : ℕ) → number_of_stored_fault f ≡ Some n → is_fault {A = Header} (Err f) ≡ false
+numbered Fault n e = absurd cc
+numbered Page n e = refl
+numbered PieceLength n e = refl
+numbered (Package f) n e = refl
+numbered Identity n e = refl
+
+-- a set is refused for a first entry, or for one behind none
+pub refused : (A B : Type 0) (f : sets.SetFault) (o p : Option SetFault) → is_set_fault {A = B} (Err f) ≡ false → (is_set_fault {A = A} (Err f) ≡ false → SetFaultIs {A = A} (Err f) o) → SetFaultIs {A = B} (Err f) (option_or o p)
+refused A B set_faults.Fault o p e says = absurd cc
+refused A B (set_faults.Missing k) o p e says = ap (λ (x : Option SetFault). option_or x p) (says refl)
+refused A B (set_faults.BadPackage k n) o p e says = ap (λ (x : Option SetFault). option_or x p) (says refl)
+
+pub refused_later : (A B : Type 0) (f : sets.SetFault) (o p : Option SetFault) → o ≡ None → is_set_fault {A = B} (Err f) ≡ false → (is_set_fault {A = A} (Err f) ≡ false → SetFaultIs {A = A} (Err f) p) → SetFaultIs {A = B} (Err f) (option_or o p)
+refused_later A B set_faults.Fault o p none e says = absurd cc
+refused_later A B (set_faults.Missing k) o p none e says = ap (λ (x : Option SetFault). option_or x p) none ∙ says refl
+refused_later A B (set_faults.BadPackage k n) o p none e says = ap (λ (x : Option SetFault). option_or x p) none ∙ says refl

@@ -1,12 +1,13 @@
 -- A set that was opened, and why there is none.
-use Rattle.std.specs.Prelude.{◌≡◌, ◌<◌, ℕ, Bool, true, false, IsTrue, List, Option, Some, None, Result, Ok, Err, slice_get}
+use Rattle.std.specs.Prelude.{◌≡◌, ◌<◌, ℕ, Bool, true, false, IsTrue, List, Option, Some, None, Result, Ok, Err, length, slice_get, slice_index_or, if◌then◌else◌}
 use Rattle.flash_pages.specs.State.{State}
 use Rattle.component_package.specs.declared.part.Header.{Header}
 use Rattle.component_package.specs.declared.manifest.Entry.{Entry}
 use Rattle.component_package.specs.declared.manifest.Manifest.{Manifest}
 use Rattle.component_package.specs.Reading.{header_of, has_even_lengths, total_of, number_of_fault}
 use Rattle.component_package.specs.Manifest.{Placed, StoredRelease, IsSlotManifest, stored_of}
-use Rattle.component_package.specs.Store.{slots_of, package_in, set_fault}
+use Rattle.component_package.specs.Store.{slots_of, package_in, set_fault, components_of}
+use Rattle.component_package.specs.Component.{Component}
 use Rattle.component_package.specs.Store as store
 use Rattle.component_store.specs.declared.set.StoreFault.{StoreFault}
 use Rattle.component_store.specs.declared.set.StoreFault.TheVariants as faults
@@ -64,3 +65,29 @@ number_of_stored_fault faults.Page = None
 number_of_stored_fault faults.PieceLength = None
 number_of_stored_fault (faults.Package f) = Some (number_of_fault f)
 number_of_stored_fault faults.Identity = Some 13
+
+-- ---- what a set holds
+
+abbrev no_header : Header
+no_header = record { component = 0; version = 0; code = 0; init = 0; bss = 0; exports = 0; relocs = 0 }
+
+-- the header of component k
+abbrev pub header_at : StoredSet → ℕ → Header
+header_at set k = slice_index_or set.headers k no_header
+
+-- component k of the set that the slots hold is this
+abbrev pub IsComponentOf : State → StoredSet → ℕ → Component → Type 0
+IsComponentOf s set k c = slice_get (components_of (slots_of s.ext) (stored_of set.slots)) k ≡ Some c
+
+-- code, or the data that is copied to RAM
+abbrev pub part_of : Component → Bool → List ℕ
+part_of c in_init = if in_init then c.init else c.code
+
+abbrev pub length_of_part : Header → Bool → ℕ
+length_of_part h in_init = if in_init then h.init else h.code
+
+-- a set's lists have 16 places each
+pub record HasRooms (set : StoredSet) : Type 0 where
+  pub entries : length set.slots.manifest.entries ≡ 16
+  pub slots : length set.slots.slots ≡ 16
+  pub headers : length set.headers ≡ 16

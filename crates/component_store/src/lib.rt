@@ -6,6 +6,7 @@
 
 mod open;
 mod package;
+mod parts;
 mod piece;
 mod reader;
 mod records;
@@ -14,6 +15,7 @@ mod slots;
 
 pub use open::open_set;
 pub use package::{check, check_package};
+pub use parts::{export_at, part_bytes, reloc_at};
 pub use piece::{piece_differs, put_piece};
 pub use set::{SetFault, StoreFault, StoredSet};
 pub use slots::{is_held, slot_for};

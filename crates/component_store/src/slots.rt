@@ -57,8 +57,8 @@ fn has_slot(slots: &[u8], slot: u8) -> bool
     slots.contains(&slot)
 }
 
-// How many entries there is room for.
-fn room(entries: &[Entry; 16]) -> usize
+/// How many entries there is room for. Contracts learn by it how long the list of entries is.
+pub(crate) fn room(entries: &[Entry; 16]) -> usize
     ensures room { result ≡ 16 }
     ensures entries { length entries.now ≡ 16 }
 {

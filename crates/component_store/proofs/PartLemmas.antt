@@ -1,0 +1,92 @@
+-- The components of a set that slots hold.
+use Rattle.std.proofs.Common.{◌≡◌, ℕ, zero, suc, ◌+◌, ◌-◌, ◌*◌, ◌<◌, ◌≤◌, Bool, true, false, cond, Option, Some, None, Result, Ok, Err, List, [], ◌∷◌, length, take, drop, map, get_or, refl, sym, ap, ap₂, subst, ◌∙◌, arith, slice_range}
+use Rattle.std.specs.Prelude.{slice_get, not, nat_le, ◌&&◌}
+use Rattle.std.specs.List.{list_all}
+use Rattle.std.specs.Option.{option_or, option_map, option_and_then}
+use Rattle.std.specs.Result.{result_err}
+use Rattle.std.proofs.lemmas.Bool.{and_parts}
+use Rattle.std.proofs.lemmas.Option.{same_Some, slice_get-get_or}
+use Rattle.std.proofs.lemmas.List.{length-map}
+use Rattle.avr_reloc.specs.declared.kind.RelocType.{RelocType}
+use Rattle.avr_reloc.specs.declared.patch.Shape.{Shape}
+use Rattle.flash_pages.specs.State.{State, IsState}
+use Rattle.component_package.specs.declared.manifest.Entry.{Entry}
+use Rattle.component_package.specs.declared.part.Header.{Header}
+use Rattle.component_package.specs.declared.part.Export.{Export}
+use Rattle.component_package.specs.declared.part.Reloc.{Reloc}
+use Rattle.component_package.specs.declared.fault.PackageFault.{PackageFault}
+use Rattle.component_package.specs.Component.{Component}
+use Rattle.component_package.specs.Reading.{first_fault, header_of, total_of, package_fault, number_of_fault, component_of, check_export_of, export_of, raw_export, symbol_before}
+use Rattle.component_package.specs.Manifest.{Placed, stored_of}
+use Rattle.component_package.specs.Store.{slots_of, package_in, stored_fault, identity_fault, missing_at, bad_package_at, set_fault, SetFault, Missing, BadPackage}
+use Rattle.component_package.proofs.First.{none_or, no_fault, chosen}
+use Rattle.component_package.proofs.Steps.{export_said}
+use Rattle.component_package.proofs.StoredLemmas.{length-pairs, the_placed}
+use Rattle.component_store.specs.declared.set.StoredSet.{StoredSet}
+use Rattle.component_store.specs.Reader.{held_bytes, held_package}
+use Rattle.component_store.specs.Sets.{IsSet, HoldsSet, HasRooms, IsComponentOf, header_at}
+use Rattle.component_store.proofs.OpenLemmas.{no_entry, entry_of, is_entry, package_is}
+
+-- the component in a slot, by its header
+pub record IsHeld (s : State) (slot : ℕ) (h : Header) (c : Component) : Type 0 where
+  pub header : h ≡ header_of (held_package s slot h)
+  pub sound : package_fault (held_package s slot h) ≡ None
+  pub component : c ≡ component_of (held_package s slot h)
+
+mapped : {X Y : Type 0} (f : X → Y) (xs : List X) (k : ℕ) (x : X) → slice_get xs k ≡ Some x → slice_get (map f xs) k ≡ Some (f x)
+mapped f [] k x at = absurd cc
+mapped f (y ∷ ys) zero x at = let e : y ≡ x = cc in ap (λ z. Some (f z)) e
+mapped f (y ∷ ys) (suc k) x at = mapped f ys k x at
+
+no_bad : (k : ℕ) (o : Option ℕ) → option_map (BadPackage k) o ≡ None → o ≡ None
+no_bad k None e = refl
+no_bad k (Some n) e = absurd cc
+
+no_number : (o : Option PackageFault) (p : Option ℕ) → option_or (option_map number_of_fault o) p ≡ None → o ≡ None
+no_number None p e = refl
+no_number (Some f) p e = absurd cc
+
+-- the total length of a header that fits its entry
+pub fits_slot : (set : StoredSet) (k : ℕ) → IsSet set → HasRooms set → k < set.slots.manifest.count → total_of (header_at set k) ≤ 9984
+fits_slot set k is rooms lt =
+    let few = is.manifest.count in
+    let at = is_entry set.slots k is.manifest rooms.entries rooms.slots lt in
+    let none : Header = record { component = 0; version = 0; code = 0; init = 0; bss = 0; exports = 0; relocs = 0 } in
+    let head = slice_get-get_or set.headers k none (omega (arith, rooms.headers)) in
+    let entry = slice_get-get_or set.slots.manifest.entries k no_entry (omega (arith, rooms.entries)) in
+    omega (arith, (is.headers k (get_or set.headers k none) (get_or set.slots.manifest.entries k no_entry) lt head entry).total, at.entry.most)
+
+-- component k of a set that the board holds
+pub held_component : (s : State) (set : StoredSet) (k : ℕ) (c : Component) → IsSet set → HasRooms set → k < set.slots.manifest.count → HoldsSet s set → IsComponentOf s set k c
+    → IsHeld s (get_or set.slots.slots k 0) (header_at set k) c
+held_component s set k c is rooms lt holds component =
+    let few = is.manifest.count in
+    let m = set.slots in
+    let at = is_entry m k is.manifest rooms.entries rooms.slots lt in
+    let p : Placed = entry_of m k in
+    let none : Header = record { component = 0; version = 0; code = 0; init = 0; bss = 0; exports = 0; relocs = 0 } in
+    let h : Header = get_or set.headers k none in
+    let head = slice_get-get_or set.headers k none (omega (arith, rooms.headers)) in
+    let entry = slice_get-get_or m.manifest.entries k no_entry (omega (arith, rooms.entries)) in
+    let total : total_of h ≡ p.entry.length = (is.headers k h (get_or m.manifest.entries k no_entry) lt head entry).total in
+    let there : package_in (slots_of s.ext) p ≡ held_package s p.slot h = package_is s p at.slot ∙ ap (held_bytes s p.slot) (sym total) in
+    let count = length-pairs (λ x. the_placed x) m.manifest.entries m.slots m.manifest.count (omega (arith, rooms.entries)) (omega (arith, rooms.slots)) in
+    let faults = none_or (first_fault (missing_at (slots_of s.ext) (stored_of m)) (length (stored_of m).placed)) (first_fault (bad_package_at (slots_of s.ext) (stored_of m)) (length (stored_of m).placed)) holds.whole in
+    let good : bad_package_at (slots_of s.ext) (stored_of m) k ≡ None = no_fault (bad_package_at (slots_of s.ext) (stored_of m)) (length (stored_of m).placed) k faults.1 (omega (arith, count)) in
+    let no_one : stored_fault p.entry (package_in (slots_of s.ext) p) ≡ None =
+    no_bad k (stored_fault p.entry (package_in (slots_of s.ext) p)) (sym (ap (option_and_then (λ (q : Placed). option_map (BadPackage k) (stored_fault q.entry (package_in (slots_of s.ext) q)))) at.here) ∙ good) in
+    record {
+      header = holds.headers k h p lt head at.here ∙ ap header_of there;
+      sound = ap package_fault (sym there) ∙ no_number (package_fault (package_in (slots_of s.ext) p)) (identity_fault p.entry (package_in (slots_of s.ext) p)) no_one;
+      component = same_Some c _ (sym component ∙ mapped (λ (q : Placed). component_of (package_in (slots_of s.ext) q)) (stored_of m).placed k p at.here) ∙ ap component_of there;
+    }
+
+-- ---- records, whatever comes before them
+
+ok_of : {A F : Type 0} (r : Result A F) → result_err r ≡ None → (a : A) × (r ≡ Ok a)
+ok_of (Ok a) e = (a, refl)
+ok_of (Err f) e = absurd cc
+
+-- an export without a fault is one without another before it too
+pub export_alone : (h : Header) (before : Option ℕ) (i : ℕ) (raw : List ℕ) → result_err (check_export_of h before i raw) ≡ None → check_export_of h None i raw ≡ Ok (export_of raw)
+export_alone h before i raw none = ?
