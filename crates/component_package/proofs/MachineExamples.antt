@@ -65,14 +65,14 @@ repeated = refl
 -- a piece before its manifest, LINK before the second piece, COMMIT before LINK, and pieces that are none: an empty one, one of no entry, one of no page, a
 -- short one
 too_early : session_answers formatted
-      (frame 2 (0 ∷ 0 ∷ p) ∷ frame 1 manifest ∷ frame 2 (0 ∷ 0 ∷ p) ∷ bare 3 ∷ bare 4 ∷ frame 2 (0 ∷ 0 ∷ []) ∷ frame 2 (2 ∷ 0 ∷ q) ∷ frame 2 (1 ∷ 1 ∷ q) ∷ frame 2 (1 ∷ 0 ∷ take 39 q) ∷ bare 6 ∷ []) ≡
+    (frame 2 (0 ∷ 0 ∷ p) ∷ frame 1 manifest ∷ frame 2 (0 ∷ 0 ∷ p) ∷ bare 3 ∷ bare 4 ∷ frame 2 (0 ∷ 0 ∷ []) ∷ frame 2 (2 ∷ 0 ∷ q) ∷ frame 2 (1 ∷ 1 ∷ q) ∷ frame 2 (1 ∷ 0 ∷ take 39 q) ∷ bare 6 ∷ []) ≡
     Booted 0 ∷ NoManifest ∷ ManifestIs 1 0 ∷ Piece 0 0 ∷ Missing 1 ∷ NotLinked ∷ BadPiece ∷ BadPiece ∷ BadPiece ∷ BadPiece ∷ Status 0 1 1 ∷ []
 unfolding sha256 digest_bytes hash_after compress rounds schedule first_words link_cause filled_page
 too_early = refl
 
 -- what a standing commit answers, and what a manifest of the release that boots does
 too_late : session_answers formatted
-      (frame 1 manifest ∷ frame 2 (0 ∷ 0 ∷ p) ∷ frame 2 (1 ∷ 0 ∷ q) ∷ bare 3 ∷ bare 6 ∷ bare 4 ∷ frame 1 manifest ∷ frame 2 (0 ∷ 0 ∷ p) ∷ bare 3 ∷ bare 7 ∷ bare 4 ∷ bare 6 ∷ bare 5 ∷ frame 1 manifest ∷ bare 6 ∷ []) ≡
+    (frame 1 manifest ∷ frame 2 (0 ∷ 0 ∷ p) ∷ frame 2 (1 ∷ 0 ∷ q) ∷ bare 3 ∷ bare 6 ∷ bare 4 ∷ frame 1 manifest ∷ frame 2 (0 ∷ 0 ∷ p) ∷ bare 3 ∷ bare 7 ∷ bare 4 ∷ bare 6 ∷ bare 5 ∷ frame 1 manifest ∷ bare 6 ∷ []) ≡
     Booted 0 ∷ ManifestIs 1 0 ∷ Piece 0 0 ∷ Piece 1 0 ∷ Linked 1 ∷ Status 0 1 2 ∷ Committed 1 ∷ Reboot 1 ∷ Reboot 1 ∷ Reboot 1 ∷ Reboot 1 ∷ Committed 1 ∷ Status 1 0 3 ∷ Booted 1 ∷ Stale 1 ∷ Status 1 0 0 ∷ []
 unfolding sha256 digest_bytes hash_after compress rounds schedule first_words link_cause filled_page
 too_late = refl

@@ -96,9 +96,19 @@ entry_there b at bytes long =
     let n : at + 38 - at ≡ 38 = omega arith in
     let m : at + 38 - (at + 6) ≡ 32 = omega arith in
     let front = six b at (omega arith) in
-    rw (e3, e5, low_byte (get_or b at 0) (get_or b (at + 1) 0) (bytes at), high_byte (get_or b at 0) (get_or b (at + 1) 0) (bytes at),
-    low_byte (get_or b (at + 2) 0) (get_or b (at + 3) 0) (bytes (at + 2)), high_byte (get_or b (at + 2) 0) (get_or b (at + 3) 0) (bytes (at + 2)),
-    low_byte (get_or b (at + 4) 0) (get_or b (at + 5) 0) (bytes (at + 4)), high_byte (get_or b (at + 4) 0) (get_or b (at + 5) 0) (bytes (at + 4)), n, m, front) refl
+    rw (
+      e3,
+      e5,
+      low_byte (get_or b at 0) (get_or b (at + 1) 0) (bytes at),
+      high_byte (get_or b at 0) (get_or b (at + 1) 0) (bytes at),
+      low_byte (get_or b (at + 2) 0) (get_or b (at + 3) 0) (bytes (at + 2)),
+      high_byte (get_or b (at + 2) 0) (get_or b (at + 3) 0) (bytes (at + 2)),
+      low_byte (get_or b (at + 4) 0) (get_or b (at + 5) 0) (bytes (at + 4)),
+      high_byte (get_or b (at + 4) 0) (get_or b (at + 5) 0) (bytes (at + 4)),
+      n,
+      m,
+      front,
+    ) refl
 
 -- an entry is read again where its bytes begin
 pub entry_again : (e : Entry) (rest : List ℕ) → IsManifestEntry e → manifest_entry_at (manifest_entry_bytes e ++ rest) 0 ≡ e

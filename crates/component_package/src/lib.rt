@@ -21,8 +21,10 @@ pub use check::{check_export, check_reloc, field_span};
 pub use fault::PackageFault;
 pub use header::read_header;
 pub use list::{Bytes, Exports, NoMemory, Relocs, Text};
-pub use manifest::{Entry, Manifest, ManifestFault, SlotManifest};
-pub use manifest::{read_manifest, read_slot_pages, slot_page, write_manifest};
+pub use manifest::{
+    Entry, Manifest, ManifestFault, SlotManifest, read_manifest, read_slot_pages, slot_page,
+    write_manifest,
+};
 pub use part::{Export, Header, Package, Place, Reloc, Site};
 pub use read::{PackageView, read_package};
 pub use write::write_package;
@@ -64,5 +66,7 @@ pub fn stored_release_is_one()
     ensures { StoredReleaseIsOne }
 {}
 
+#[cfg(test)]
+mod manifest_tests;
 #[cfg(test)]
 mod tests;

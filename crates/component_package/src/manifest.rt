@@ -121,7 +121,7 @@ fn size_fault(bytes: &[u8]) -> Option<ManifestFault>
     if count == 0 {
         return Some(ManifestFault::Count(count));
     }
-    if count > 16 {
+    if 16 < count {
         return Some(ManifestFault::Count(count));
     }
     if bytes.len() != 5 + 38 * count as usize {
@@ -236,7 +236,11 @@ pub fn write_manifest(m: &Manifest, into: &mut [u8; 613]) -> u16
 {
     put(into, 0, &front_array(m));
     for i in 0..m.count {
-        put(into, 5 + 38 * i as usize, &entry_array(&m.entries[i as usize]));
+        put(
+            into,
+            5 + 38 * i as usize,
+            &entry_array(&m.entries[i as usize]),
+        );
     }
     5 + 38 * m.count as u16
 }
@@ -281,7 +285,11 @@ pub fn slot_page(m: &SlotManifest, page: u8) -> [u8; 256]
         return bytes;
     }
     for j in 0..4u8 {
-        put(&mut bytes, 64 * j as usize, &block_array(m, 4 * (page - 1) + j));
+        put(
+            &mut bytes,
+            64 * j as usize,
+            &block_array(m, 4 * (page - 1) + j),
+        );
     }
     bytes
 }

@@ -88,7 +88,6 @@ second_part None x f e = absurd cc
 second_part (Some g) x f e = e
 
 module _ (s : State) (is : IsState s) (e : Entry) (slot : ℕ) (low : slot < 32) (long : 32 ≤ e.length) (short : e.length ≤ 9984) where
-
   size : length (held_bytes s slot e.length) ≡ e.length
   size = length-take-le e.length (slot_at s.ext slot) (omega (arith, length-slot s is slot low))
 

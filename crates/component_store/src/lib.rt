@@ -19,3 +19,6 @@ pub use parts::{export_at, part_bytes, reloc_at};
 pub use piece::{piece_differs, put_piece};
 pub use set::{SetFault, StoreFault, StoredSet};
 pub use slots::{is_held, slot_for};
+
+#[cfg(test)]
+mod tests;

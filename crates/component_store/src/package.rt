@@ -11,8 +11,8 @@ ghost use Rattle.component_store.specs.Pieces.{is_fault};
 ghost use Rattle.component_store.specs.Packages.{is_of, package_answer, records_fault, is_of_package, FaultIs};
 ghost use Rattle.component_store.specs.Reader.{Keeps, IsUnder, held_bytes, held_package};
 
-use crate::records::{export_raw, field_raw, reloc_raw};
 use crate::reader::SlotReader;
+use crate::records::{export_raw, field_raw, reloc_raw};
 use crate::set::StoreFault;
 use component_package::{Entry, Header, check_export, check_reloc, read_header};
 use flash_pages::{Board, Failed};

@@ -10,7 +10,7 @@ ghost use Rattle.component_package.specs.Store.{slots_of};
 ghost use Rattle.component_store.specs.Pieces.{piece_fault, is_fault, piece_place, IsPiece};
 
 use crate::set::StoreFault;
-use component_package::areas::{SLOTS, SLOT_PAGES};
+use component_package::areas::{SLOT_PAGES, SLOTS};
 use flash_pages::Board;
 
 // What is wrong with the number of a page, or with a piece of so many bytes.

@@ -121,11 +121,7 @@ pub fn slot_for(current: &SlotManifest, incoming: &Manifest) -> SlotManifest
 {
     let mut slots = [0; 16];
     for i in 0..incoming.count {
-        let slot = place(
-            current,
-            &slots[..i as usize],
-            &incoming.entries[i as usize],
-        );
+        let slot = place(current, &slots[..i as usize], &incoming.entries[i as usize]);
         slots[i as usize] = slot;
     }
     SlotManifest {

@@ -16,11 +16,11 @@ returns-then-not-is_same c =
     let five : length ps ≡ 5 = search rules in
     let lt : p < 5 = c.loop-page-test.true in
     let same = λ (e : concat ps ≡ b).
-        let here : slice_range (concat ps) (256 * p + 0) (256 * p + 0 + 256) ≡ slice_range (get_or ps p []) 0 256 = joined_slice ps p 0 256 c.requires.sizes (omega arith) (omega arith) in
-        let page_size : length (get_or ps p []) ≡ 256 = c.requires.sizes p [] (omega arith) in
-        let at : 256 * p + 0 ≡ 256 * p = omega arith in
-        let page : slice_range b (256 * p) (256 * p + 256) ≡ get_or ps p [] = ap (λ (l : List ℕ). slice_range l (256 * p) (256 * p + 256)) (sym e) ∙ ap (λ (k : ℕ). slice_range (concat ps) k (k + 256)) (sym at) ∙ here ∙ take_all 256 (get_or ps p []) (omega arith) in
-        subst (λ (t : Bool). IsTrue t) c.if-not-is_same.true (c.is_same.ensures.1 (c.slot_page.ensures ∙ page)) in
+    let here : slice_range (concat ps) (256 * p + 0) (256 * p + 0 + 256) ≡ slice_range (get_or ps p []) 0 256 = joined_slice ps p 0 256 c.requires.sizes (omega arith) (omega arith) in
+    let page_size : length (get_or ps p []) ≡ 256 = c.requires.sizes p [] (omega arith) in
+    let at : 256 * p + 0 ≡ 256 * p = omega arith in
+    let page : slice_range b (256 * p) (256 * p + 256) ≡ get_or ps p [] = ap (λ (l : List ℕ). slice_range l (256 * p) (256 * p + 256)) (sym e) ∙ ap (λ (k : ℕ). slice_range (concat ps) k (k + 256)) (sym at) ∙ here ∙ take_all 256 (get_or ps p []) (omega arith) in
+    subst (λ (t : Bool). IsTrue t) c.if-not-is_same.true (c.is_same.ensures.1 (c.slot_page.ensures ∙ page)) in
     (λ (f : IsTrue false). absurd (false≢true f), same)
 
 pub loop-page-preserved : goal.loop-page-preserved

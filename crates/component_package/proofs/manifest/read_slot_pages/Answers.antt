@@ -18,9 +18,9 @@ pub returns-in_err-m-clause-none : goal.returns-in_err-m-clause-none
 returns-in_err-m-clause-none c =
     let b = concat c.args.pages.now in
     let none = λ (m : StoredRelease) (stores : Stores b m).
-        let fourth = first_page_byte c.args.pages.now 4 c.are_pages.ensures.sizes (omega (arith, c.are_pages.ensures.count)) (omega arith) in
-        let stands : first_fault (place_fault b) (get_or (get_or c.args.pages.now 0 []) 4 0) ≡ None = ap (first_fault (place_fault b)) (sym fourth) ∙ stored_stands b m stores in
-        false≢true (sym (c.in_err-m.ensures.fault ∙ ap is_some stands)) in
+    let fourth = first_page_byte c.args.pages.now 4 c.are_pages.ensures.sizes (omega (arith, c.are_pages.ensures.count)) (omega arith) in
+    let stands : first_fault (place_fault b) (get_or (get_or c.args.pages.now 0 []) 4 0) ≡ None = ap (first_fault (place_fault b)) (sym fourth) ∙ stored_stands b m stores in
+    false≢true (sym (c.in_err-m.ensures.fault ∙ ap is_some stands)) in
     rw (c.from_residual.ensures) none
 
 pub has_pages-requires : goal.has_pages-requires
