@@ -1,6 +1,7 @@
 //! Worked manifests, and each of their faults at its first and last place, alone and before the next in order.
 
-ghost use Rattle.std.specs.Prelude.{◌≡◌, ◌<◌, length};
+ghost use Rattle.std.specs.Prelude.{IfSome, IfOk};
+ghost use Rattle.component_package.specs.Manifest.{IsManifest};
 
 use super::*;
 use std::alloc::{AllocError, Global};
@@ -21,11 +22,14 @@ fn changed(alloc: Global, count: u8, changes: &[(usize, u8)]) -> Result<Vec<u8>,
     Ok(bytes)
 }
 
-// The fault of these bytes, which the call takes where there are fewer than 2^32 of them.
-fn fault_of(bytes: &[u8]) -> Option<ManifestFault>
-    requires { length bytes.now < 10000 }
+// The manifest that these bytes spell, of at most 613 bytes, or its fault.
+fn read(bytes: &[u8]) -> Option<Result<Manifest, ManifestFault>>
+    ensures { IfSome result (λ r. IfOk r IsManifest) }
 {
-    read_manifest(bytes).err()
+    if bytes.len() > 613 {
+        return None;
+    }
+    Some(read_manifest(bytes))
 }
 
 #[test]
@@ -63,8 +67,10 @@ fn manifests_have_their_first_fault(rt: HostRuntime) -> Result<(), Fail> {
         let bytes = changed(rt.alloc(), count, &changes)?;
         let size = bytes.len().saturating_sub(left_out);
         if let Some(front) = bytes.as_slice().get(..size) {
-            if front.len() < 10000 {
-                assert_eq!(rt; fault_of(front), want);
+            match read(front) {
+                Some(Ok(_)) => assert_eq!(rt; None, want),
+                Some(Err(fault)) => assert_eq!(rt; Some(fault), want),
+                None => assert!(rt; false, "too long"),
             }
         }
     }
@@ -74,18 +80,20 @@ fn manifests_have_their_first_fault(rt: HostRuntime) -> Result<(), Fail> {
 #[test]
 fn a_manifest_is_written_again(rt: HostRuntime) -> Result<(), Fail> {
     let bytes = changed(rt.alloc(), 2, &[])?;
-    if bytes.len() >= 10000 {
-        return Ok(());
-    }
-    let Ok(manifest) = read_manifest(bytes.as_slice()) else {
+    let Some(Ok(manifest)) = read(bytes.as_slice()) else {
         assert!(rt; false, "refused");
         return Ok(());
     };
     let mut into = [0xEE; 613];
     assert_eq!(rt; write_manifest(&manifest, &mut into), 81);
-    assert_eq!(rt; into[..11], [1, 0, 0, 0, 2, 1, 0, 1, 0, 0x2E, 0][..]);
-    assert_eq!(rt; into[..81], *bytes.as_slice());
-    assert_eq!(rt; into[81..], [0xEE; 532][..]);
+    for at in 0..613usize {
+        let want = bytes.as_slice().get(at).copied().unwrap_or(0xEE);
+        assert_eq!(rt; into[at], want, "{at}");
+    }
+    let front = [1, 0, 0, 0, 2, 1, 0, 1, 0, 0x2E, 0];
+    for at in 0..11usize {
+        assert_eq!(rt; into[at], front[at], "{at}");
+    }
     Ok(())
 }
 
@@ -93,12 +101,16 @@ fn a_manifest_is_written_again(rt: HostRuntime) -> Result<(), Fail> {
 fn pages_are_read_as_written(rt: HostRuntime) -> Result<(), Fail> {
     let mut pages = [[0; 256]; 5];
     // release 3 with component 7 in slot 31
-    pages[0][0] = 3;
-    pages[0][4] = 1;
-    pages[1][0] = 7;
-    pages[1][2] = 2;
-    pages[1][4] = 32;
-    pages[1][38] = 31;
+    let mut head = [0; 256];
+    head[0] = 3;
+    head[4] = 1;
+    let mut entries = [0; 256];
+    entries[0] = 7;
+    entries[2] = 2;
+    entries[4] = 32;
+    entries[38] = 31;
+    pages[0] = head;
+    pages[1] = entries;
     let Some(stored) = read_slot_pages(&pages) else {
         assert!(rt; false, "refused");
         return Ok(());
@@ -112,11 +124,12 @@ fn pages_are_read_as_written(rt: HostRuntime) -> Result<(), Fail> {
         (3, 1, 31)
     );
     for page in 0..5u8 {
-        assert_eq!(rt; slot_page(&stored, page), pages[page as usize]);
+        let want = pages[page as usize];
+        assert_eq!(rt; slot_page(&stored, page), want);
     }
     // a page, a byte of it, what is put there
     let spoilt = [
-        (0, 4, 17),
+        (0usize, 4usize, 17),
         (0, 255, 1),
         (1, 38, 32),
         (1, 39, 1),
@@ -126,8 +139,13 @@ fn pages_are_read_as_written(rt: HostRuntime) -> Result<(), Fail> {
     ];
     for (page, at, byte) in spoilt {
         let mut other = pages;
-        other[page][at] = byte;
-        assert!(rt; read_slot_pages(&other).is_none(), "{page} {at}");
+        if page < 5 && at < 256 {
+            let mut changed = other[page];
+            changed[at] = byte;
+            other[page] = changed;
+        }
+        let read = read_slot_pages(&other);
+        assert!(rt; read.is_none(), "{page} {at}");
     }
     Ok(())
 }
