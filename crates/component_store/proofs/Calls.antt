@@ -1,5 +1,5 @@
 -- No call at all, as a read.
-use Rattle.std.proofs.Common.{◌≡◌, inl, inr, ℕ, Some, refl, arith}
+use Rattle.std.proofs.Common.{◌≡◌, inl, Some, refl, arith}
 use Rattle.flash_pages.specs.State.{State, Place}
 use Rattle.flash_pages.specs.Board.{View, Reads, Programs}
 use Rattle.flash_pages.proofs.Runs.{reads_alone, reads_programs}

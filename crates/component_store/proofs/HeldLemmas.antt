@@ -1,17 +1,16 @@
 -- The package in a slot, read record by record.
-use Rattle.std.proofs.Common.{◌≡◌, ℕ, ◌+◌, ◌-◌, ◌*◌, ◌<◌, ◌≤◌, Bool, true, false, cond, Option, Some, None, List, length, take, drop, refl, sym, ap, ap₂, subst, ◌∙◌, arith, slice_range}
+use Rattle.std.proofs.Common.{◌≡◌, ℕ, ◌+◌, ◌-◌, ◌*◌, ◌<◌, ◌≤◌, Bool, cond, Option, Some, None, List, length, take, drop, refl, sym, ap, ap₂, ◌∙◌, arith, slice_range}
 use Rattle.std.specs.Prelude.{All, not, nat_lt, IsTrue}
-use Rattle.std.specs.List.{concat}
 use Rattle.std.specs.Option.{option_or, option_map}
-use Rattle.std.proofs.lemmas.Bool.{not-false, and_parts, eqb-true, leb-true}
+use Rattle.std.proofs.lemmas.Bool.{not-false, and_parts, eqb-true}
 use Rattle.std.proofs.lemmas.List.{take-take, drop-take, length-take-le, length-drop}
 use Rattle.std.proofs.lemmas.List.Elements.{All-take, All-drop}
-use Rattle.flash_pages.specs.State.{State, IsState, IsPage}
+use Rattle.flash_pages.specs.State.{State, IsState}
 use Rattle.component_package.specs.declared.manifest.Entry.{Entry}
 use Rattle.component_package.specs.declared.part.Header.{Header}
 use Rattle.component_package.specs.declared.fault.PackageFault.{PackageFault}
 use Rattle.component_package.specs.declared.fault.PackageFault.TheVariants.{Short, Magic, Reserved, Parity, Length}
-use Rattle.component_package.specs.Reading.{header_of, header_fault, has_magic, is_blank, has_even_lengths, has_its_length, total_of, exports_fault, relocs_fault, reloc_fault, package_fault, first_fault}
+use Rattle.component_package.specs.Reading.{header_of, header_fault, has_magic, is_blank, has_even_lengths, has_its_length, total_of, exports_fault, reloc_fault, package_fault, first_fault}
 use Rattle.component_package.specs.Laws.{export_step, reloc_step}
 use Rattle.component_package.specs.Store.{slot_at}
 use Rattle.component_package.proofs.First.{passed, first_fault-same}

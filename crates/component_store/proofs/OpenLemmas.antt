@@ -1,8 +1,7 @@
 -- What is missing or bad, entry by entry.
-use Rattle.std.proofs.Common.{◌≡◌, ◌≢◌, ◌⊎◌, inl, inr, ℕ, zero, suc, ◌+◌, ◌-◌, ◌*◌, ◌<◌, ◌≤◌, Bool, true, false, cond, eqb, Option, Some, None, Err, List, [], ◌∷◌, length, take, get_or, set, refl, sym, ap, ap₂, subst, ◌∙◌, arith}
+use Rattle.std.proofs.Common.{◌≡◌, ◌≢◌, ◌⊎◌, inl, inr, ℕ, zero, suc, ◌+◌, ◌-◌, ◌<◌, ◌≤◌, Bool, true, false, cond, Option, Some, None, Err, List, [], ◌∷◌, length, take, get_or, set, refl, sym, ap, ◌∙◌, arith}
 use Rattle.std.specs.Prelude.{slice_get, not, IsTrue, ◌↔◌}
 use Rattle.std.specs.Option.{option_or, option_map, option_and_then}
-use Rattle.std.specs.List.{AllByRecursion}
 use Rattle.sha2.specs.Sha256.{sha256}
 use Rattle.flash_pages.specs.State.{State}
 use Rattle.component_package.specs.declared.manifest.Entry.{Entry}
@@ -11,7 +10,7 @@ use Rattle.component_package.specs.declared.part.Header.{Header}
 use Rattle.component_package.specs.declared.fault.PackageFault.{PackageFault}
 use Rattle.component_package.specs.Reading.{first_fault, package_fault, number_of_fault, header_of}
 use Rattle.component_package.specs.Manifest.{Placed, StoredRelease, IsManifestEntry, IsSlotManifest, stored_of}
-use Rattle.component_package.specs.Store.{slots_of, package_in, is_same, is_missing, missing_at, bad_package_at, stored_fault, identity_fault, SetFault, Missing, BadPackage}
+use Rattle.component_package.specs.Store.{slots_of, package_in, is_same, is_missing, missing_at, bad_package_at, stored_fault, SetFault, Missing, BadPackage}
 use Rattle.component_package.proofs.Lists.{all_at}
 use Rattle.component_package.proofs.StoredLemmas.{pair_at, the_placed}
 use Rattle.component_store.specs.declared.set.StoreFault.{StoreFault}

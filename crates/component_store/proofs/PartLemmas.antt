@@ -1,5 +1,5 @@
 -- The components of a set that slots hold.
-use Rattle.std.proofs.Common.{◌≡◌, ℕ, zero, suc, ◌+◌, ◌-◌, ◌*◌, ◌%◌, ◌<◌, ◌≤◌, Bool, true, false, cond, eqb, Option, Some, None, Result, Ok, Err, List, [], ◌∷◌, length, take, drop, map, get_or, refl, sym, ap, ap₂, subst, ◌∙◌, arith, slice_range}
+use Rattle.std.proofs.Common.{◌≡◌, ℕ, zero, suc, ◌+◌, ◌-◌, ◌%◌, ◌<◌, ◌≤◌, Bool, true, false, cond, eqb, Option, Some, None, Result, Ok, Err, List, [], ◌∷◌, length, take, drop, map, get_or, refl, sym, ap, ◌∙◌, arith, slice_range}
 use Rattle.std.specs.Prelude.{slice_get, not, nat_le, ◌&&◌, unwrap_or}
 use Rattle.std.specs.List.{list_all}
 use Rattle.std.specs.Option.{option_or, option_map, option_and_then}
@@ -13,18 +13,17 @@ use Rattle.avr_reloc.specs.declared.kind.Shape.{Shape}
 use Rattle.avr_reloc.specs.declared.kind.Shape.TheVariants as shapes
 use Rattle.avr_reloc.specs.Kind.{shape_of, mask_of, kind_of}
 use Rattle.avr_reloc.specs.Field.{masked}
-use Rattle.flash_pages.specs.State.{State, IsState}
-use Rattle.component_package.specs.declared.manifest.Entry.{Entry}
+use Rattle.flash_pages.specs.State.{State}
 use Rattle.component_package.specs.declared.part.Header.{Header}
 use Rattle.component_package.specs.declared.part.Export.{Export}
 use Rattle.component_package.specs.declared.part.Reloc.{Reloc}
 use Rattle.component_package.specs.declared.fault.PackageFault.{PackageFault}
 use Rattle.component_package.specs.Component.{Component}
-use Rattle.component_package.specs.Reading.{first_fault, header_of, total_of, package_fault, number_of_fault, component_of, check_export_of, export_in, export_of, raw_export, symbol_before, place_of, is_above, check_reloc_of, reloc_in, reloc_with, reloc_of, has_place, is_behind, has_target, is_clear}
+use Rattle.component_package.specs.Reading.{first_fault, header_of, total_of, package_fault, number_of_fault, component_of, check_export_of, export_in, export_of, place_of, is_above, check_reloc_of, reloc_in, reloc_with, reloc_of, has_place, is_behind, has_target, is_clear}
 use Rattle.component_package.specs.Numbers.{u16_at}
 use Rattle.component_package.specs.declared.fault.PackageFault.TheVariants.{ExportOrder, RelocPlace, RelocOrder, Target, FieldNotZero}
 use Rattle.component_package.specs.Manifest.{Placed, stored_of}
-use Rattle.component_package.specs.Store.{slots_of, package_in, stored_fault, identity_fault, missing_at, bad_package_at, set_fault, SetFault, Missing, BadPackage}
+use Rattle.component_package.specs.Store.{slots_of, package_in, stored_fault, identity_fault, missing_at, bad_package_at, BadPackage}
 use Rattle.component_package.proofs.First.{none_or, no_fault, chosen, spared}
 use Rattle.component_package.proofs.Steps.{export_said}
 use Rattle.component_package.proofs.StoredLemmas.{length-pairs, the_placed}

@@ -1,13 +1,12 @@
 -- Slots of a release, found one after another.
-use Rattle.std.proofs.Common.{◌≡◌, ℕ, zero, suc, ◌+◌, ◌*◌, ◌<◌, ◌≤◌, Bool, true, false, cond, eqb, Option, Some, None, List, [], ◌∷◌, ◌++◌, length, take, drop, get_or, map, set, refl, sym, ap, ap₂, subst, ◌∙◌, arith, add-one}
+use Rattle.std.proofs.Common.{◌≡◌, ℕ, zero, suc, ◌+◌, ◌<◌, ◌≤◌, Bool, true, false, cond, eqb, Option, Some, None, List, [], ◌∷◌, ◌++◌, length, take, map, refl, sym, ap, ap₂, subst, ◌∙◌, arith}
 use Rattle.std.specs.Prelude.{slice_get, not, ◌||◌, IsTrue, ◌↔◌, unwrap_or, find}
-use Rattle.std.specs.List.{list_any, range_with_len, zip}
+use Rattle.std.specs.List.{range_with_len, zip}
 use Rattle.std.proofs.lemmas.Bool.{false≢true}
-use Rattle.std.proofs.lemmas.List.{take_all}
 use Rattle.std.proofs.lemmas.List.Folds.{list_any-append}
 use Rattle.component_package.specs.declared.manifest.Entry.{Entry}
 use Rattle.component_package.specs.declared.manifest.SlotManifest.{SlotManifest}
-use Rattle.component_package.specs.Manifest.{Placed, StoredRelease, stored_of}
+use Rattle.component_package.specs.Manifest.{Placed, StoredRelease}
 use Rattle.component_package.specs.Store.{is_same, held_slot, is_taken, least_free, place_entry, placed_from}
 use Rattle.component_package.proofs.StoredLemmas.{the_placed}
 use Rattle.component_store.specs.Slots.{used_slots}

@@ -1,5 +1,5 @@
 -- What is answered of the package in a slot.
-use Rattle.std.specs.Prelude.{◌≡◌, ◌==◌, ◌&&◌, Bool, true, false, ℕ, List, length, Option, Some, None, Result, Ok, Err, if◌then◌else◌}
+use Rattle.std.specs.Prelude.{◌≡◌, ◌==◌, ◌&&◌, Bool, true, false, ℕ, List, Option, Some, None, Result, Ok, Err, if◌then◌else◌}
 use Rattle.std.specs.Option.{option_or, option_map}
 use Rattle.component_package.specs.declared.manifest.Entry.{Entry}
 use Rattle.component_package.specs.declared.part.Header.{Header}

@@ -1,18 +1,10 @@
-use Rattle.std.proofs.Common.{◌≡◌, ◌⊎◌, ⊎_elim, ℕ, ◌+◌, ◌<◌, ◌≤◌, Bool, true, false, cond, Option, Some, None, List, length, get_or, set, refl, sym, ap, ap₂, subst, ◌∙◌, arith, rules}
-use Rattle.std.specs.Prelude.{slice_get, not}
-use Rattle.std.specs.Option.{option_map, option_and_then}
-use Rattle.std.proofs.lemmas.List.{length-set}
-use Rattle.std.proofs.lemmas.Option.{same_Some, get_or_from_slice_get}
-use Rattle.flash_pages.specs.State.{State}
+use Rattle.std.proofs.Common.{◌≡◌, ℕ, Bool, cond, Some, None, length, ap, ◌∙◌, rules}
+use Rattle.std.specs.Prelude.{not}
 use Rattle.flash_pages.proofs.Runs.{reads_reads}
-use Rattle.component_package.specs.declared.manifest.Entry.{Entry}
-use Rattle.component_package.specs.declared.part.Header.{Header}
-use Rattle.component_package.specs.Reading.{first_fault, header_of, total_of}
-use Rattle.component_package.specs.Manifest.{Placed, stored_of}
-use Rattle.component_package.specs.Store.{slots_of, package_in, missing_at, bad_package_at, SetFault, Missing, BadPackage}
+use Rattle.component_package.specs.Manifest.{stored_of}
+use Rattle.component_package.specs.Store.{slots_of, missing_at, Missing}
 use Rattle.component_package.proofs.First.{first_fault-at, first_fault-more}
-use Rattle.component_store.specs.Sets.{IsHeaderOf}
-use Rattle.component_store.proofs.OpenLemmas.{no_entry, entry_of, is_entry, package_is, missing_is, bad_is, set_or_kept}
+use Rattle.component_store.proofs.OpenLemmas.{entry_of, is_entry, missing_is}
 use Rattle.component_store.proofs.open.check_digests.Goals as goal
 
 pub check-requires-clause-slot : goal.check-requires-clause-slot

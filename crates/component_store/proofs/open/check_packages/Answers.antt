@@ -1,18 +1,16 @@
-use Rattle.std.proofs.Common.{◌≢◌, inl, inr, Err, ◌≡◌, ◌⊎◌, ⊎_elim, ℕ, ◌+◌, ◌<◌, ◌≤◌, Bool, true, false, cond, Option, Some, None, List, length, get_or, set, refl, sym, ap, ap₂, subst, ◌∙◌, arith, rules}
-use Rattle.std.specs.Prelude.{slice_get, not, IsTrue}
-use Rattle.std.specs.Option.{option_map, option_and_then}
+use Rattle.std.proofs.Common.{◌≢◌, inl, inr, ◌≡◌, ℕ, Some, None, length, get_or, refl, sym, ap, subst, ◌∙◌, arith, rules}
+use Rattle.std.specs.Prelude.{slice_get, IsTrue}
+use Rattle.std.specs.Option.{option_map}
 use Rattle.std.proofs.lemmas.List.{length-set}
 use Rattle.std.proofs.lemmas.Option.{same_Some, get_or_from_slice_get}
-use Rattle.flash_pages.specs.State.{State}
 use Rattle.flash_pages.proofs.Runs.{reads_reads}
 use Rattle.component_package.specs.declared.manifest.Entry.{Entry}
 use Rattle.component_package.specs.declared.part.Header.{Header}
-use Rattle.component_package.specs.Reading.{first_fault, header_of, total_of, has_even_lengths}
+use Rattle.component_package.specs.Reading.{header_of, total_of, has_even_lengths}
 use Rattle.component_package.specs.Manifest.{Placed, stored_of}
-use Rattle.component_package.specs.Store.{slots_of, package_in, missing_at, bad_package_at, SetFault, Missing, BadPackage}
+use Rattle.component_package.specs.Store.{slots_of, package_in, bad_package_at, BadPackage}
 use Rattle.component_package.proofs.First.{first_fault-at, first_fault-more}
-use Rattle.component_store.specs.Sets.{IsHeaderOf}
-use Rattle.component_store.proofs.OpenLemmas.{no_entry, entry_of, is_entry, package_is, missing_is, bad_is, set_or_kept, numbered}
+use Rattle.component_store.proofs.OpenLemmas.{no_entry, entry_of, is_entry, package_is, bad_is, set_or_kept, numbered}
 use Rattle.component_store.specs.Sets.{number_of_stored_fault}
 use Rattle.component_store.proofs.open.check_packages.Goals as goal
 

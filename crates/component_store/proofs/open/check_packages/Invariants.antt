@@ -1,6 +1,6 @@
 use Rattle.std.proofs.Common.{◌≡◌, Some, None, length}
 use Rattle.flash_pages.specs.State.{State}
-use Rattle.flash_pages.specs.Board.{View, Reads}
+use Rattle.flash_pages.specs.Board.{Reads}
 use Rattle.component_package.specs.Reading.{first_fault}
 use Rattle.component_package.specs.Manifest.{stored_of}
 use Rattle.component_package.specs.Store.{slots_of, bad_package_at}

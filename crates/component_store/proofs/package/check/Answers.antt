@@ -1,5 +1,4 @@
-use Rattle.std.proofs.Common.{◌≡◌, ℕ, ◌+◌, ◌*◌, ◌/◌, ◌%◌, ◌≤◌, ◌++◌, List, Some, length, take, drop, sym, ap, ap₂, subst, ◌∙◌, arith, rules}
-use Rattle.flash_pages.specs.State.{State}
+use Rattle.std.proofs.Common.{◌≡◌, ℕ, ◌+◌, ◌*◌, ◌/◌, ◌%◌, ◌++◌, List, length, take, drop, sym, ap, ap₂, subst, ◌∙◌, arith, rules}
 use Rattle.flash_pages.proofs.Runs.{reads_reads}
 use Rattle.std.proofs.lemmas.List.{length-take-le}
 use Rattle.sha2.specs.Sha256.{sha256}

@@ -1,4 +1,3 @@
-use Rattle.std.proofs.Common.{◌≡◌, ℕ, sym, ap, ◌∙◌}
 use Rattle.flash_pages.proofs.Runs.{reads_reads}
 use Rattle.component_store.proofs.package.check_records.Goals as goal
 

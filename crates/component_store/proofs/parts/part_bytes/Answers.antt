@@ -1,10 +1,10 @@
-use Rattle.std.proofs.Common.{◌≡◌, ℕ, ◌+◌, ◌-◌, ◌<◌, ◌≤◌, ◌++◌, List, Some, length, take, drop, get_or, cond, sym, ap, ap₂, subst, ◌∙◌, arith, rules, slice_range}
+use Rattle.std.proofs.Common.{◌≡◌, ℕ, ◌+◌, ◌-◌, ◌<◌, ◌≤◌, ◌++◌, List, length, take, drop, get_or, cond, sym, ap, ap₂, ◌∙◌, arith, rules, slice_range}
 use Rattle.std.proofs.lemmas.List.{take_all, drop-drop, length-take-le, length-drop}
 use Rattle.std.proofs.lemmas.Slice.{take-put_mid}
 use Rattle.flash_pages.proofs.Runs.{reads_reads}
 use Rattle.component_package.specs.declared.part.Header.{Header}
 use Rattle.component_package.specs.Component.{Component}
-use Rattle.component_package.specs.Reading.{header_of, total_of, component_of}
+use Rattle.component_package.specs.Reading.{total_of}
 use Rattle.component_package.specs.Store.{slot_at}
 use Rattle.component_package.proofs.StoredLemmas.{take_further}
 use Rattle.component_store.specs.Reader.{held_package}

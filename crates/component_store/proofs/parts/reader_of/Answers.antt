@@ -1,4 +1,4 @@
-use Rattle.std.proofs.Common.{◌≡◌, ℕ, ◌<◌, ◌≤◌, length, sym, subst, rules}
+use Rattle.std.proofs.Common.{◌≡◌, ℕ, ◌<◌, length, sym, subst, rules}
 use Rattle.component_store.specs.Sets.{HasRooms}
 use Rattle.component_store.proofs.OpenLemmas.{is_entry}
 use Rattle.component_store.proofs.PartLemmas.{fits_slot}

@@ -1,7 +1,6 @@
-use Rattle.std.proofs.Common.{◌≡◌, ℕ, ◌+◌, ◌*◌, ◌≤◌, ◌<◌, List, Some, None, length, sym, ap, ap₂, ◌∙◌, subst, arith, set}
+use Rattle.std.proofs.Common.{◌≡◌, ℕ, ◌<◌, List, None, length, sym, ap, ap₂, ◌∙◌, set}
 use Rattle.std.proofs.lemmas.Option.{same_Some}
-use Rattle.flash_pages.specs.State.{State, Ext, with_page}
-use Rattle.component_package.specs.FirstMachine.{filled_page}
+use Rattle.flash_pages.specs.State.{State}
 use Rattle.component_package.specs.Store.{slots_of}
 use Rattle.component_store.specs.Pieces.{piece_fault}
 use Rattle.component_store.proofs.SlotBytes.{piece_put, page_below}

@@ -1,9 +1,9 @@
-use Rattle.std.proofs.Common.{◌≡◌, ℕ, ◌+◌, ◌≤◌, ◌<◌, ◌++◌, ◌∷◌, [], List, length, take, get_or, map, refl, sym, ap, ap₂, subst, ◌∙◌, arith, rules}
+use Rattle.std.proofs.Common.{◌≡◌, ℕ, ◌≤◌, ◌<◌, ◌++◌, ◌∷◌, [], List, length, take, get_or, map, sym, ap, subst, ◌∙◌, arith, rules}
 use Rattle.std.specs.List.{zip}
 use Rattle.std.proofs.lemmas.List.{take_more_set, take_more, length-set}
 use Rattle.component_package.specs.declared.manifest.Entry.{Entry}
 use Rattle.component_package.specs.declared.manifest.SlotManifest.{SlotManifest}
-use Rattle.component_package.specs.Manifest.{Placed, StoredRelease, IsStored, IsSlotManifest, stored_of, release_of}
+use Rattle.component_package.specs.Manifest.{Placed, StoredRelease, IsStored, stored_of, release_of}
 use Rattle.component_package.specs.Store.{placed_from, slots_for}
 use Rattle.component_package.proofs.StoredLemmas.{the_placed}
 use Rattle.mote_laws.proofs.Slots.{slots_are_found}

@@ -1,5 +1,5 @@
-use Rattle.std.proofs.Common.{◌≡◌, ℕ, ◌+◌, ◌*◌, ◌/◌, ◌≤◌, ◌-◌, ◌++◌, List, length, take, drop, rules, ap, ◌∙◌, arith}
-use Rattle.flash_pages.specs.State.{State, Ext, page_at}
+use Rattle.std.proofs.Common.{◌≡◌, ℕ, ◌+◌, ◌*◌, ◌/◌, ◌-◌, ◌++◌, length, take, drop, rules, ap, ◌∙◌, arith}
+use Rattle.flash_pages.specs.State.{Ext, page_at}
 use Rattle.flash_pages.proofs.Runs.{reads_reads}
 use Rattle.external_flash.proofs.Areas.{one_part, two_parts, bytes_from-area}
 use Rattle.component_store.proofs.reader.SlotReader.read.Goals as goal
