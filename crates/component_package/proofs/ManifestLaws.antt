@@ -1,5 +1,5 @@
 -- The laws of manifests, joined from their parts.
-use Rattle.std.proofs.Common.{◌≡◌, sym, ◌∙◌}
+use Rattle.std.proofs.Common.{sym, ◌∙◌}
 use Rattle.component_package.specs.Laws.{FaultlessManifestsSpell, ManifestIsOne, StoredReleaseIsOne}
 use Rattle.component_package.proofs.ManifestLemmas.{spelled_release, faultless_release, release_again}
 use Rattle.component_package.proofs.StoredLemmas.{stored_again}

@@ -1,12 +1,12 @@
 -- What manifests say, and that faultless ones are the spelling of it.
-use Rattle.std.proofs.Common.{◌≡◌, ◌≢◌, ℕ, zero, suc, ◌+◌, ◌-◌, ◌*◌, ◌/◌, ◌%◌, ◌<◌, ◌≤◌, ◌^◌, Bool, true, false, cond, eqb, Option, Some, None, List, [], ◌∷◌, ◌++◌, length, take, drop, get_or, map, replicate, refl, sym, ap, ap₂, subst, ◌∙◌, arith, slice_range, length-append, append_assoc}
+use Rattle.std.proofs.Common.{◌≡◌, ℕ, zero, suc, ◌+◌, ◌-◌, ◌*◌, ◌/◌, ◌%◌, ◌<◌, ◌≤◌, Bool, true, false, cond, eqb, Option, Some, None, List, [], ◌∷◌, ◌++◌, length, take, drop, get_or, map, refl, sym, ap, ap₂, subst, ◌∙◌, arith, slice_range, length-append, append_assoc}
 use Rattle.std.specs.Prelude.{slice_get, not, ◌||◌, nat_lt}
-use Rattle.std.specs.List.{flat_map, list_any, range_with_len, AllByRecursion}
+use Rattle.std.specs.List.{flat_map, list_any, AllByRecursion}
 use Rattle.std.specs.Option.{option_or}
-use Rattle.std.proofs.lemmas.Bool.{eqb-true, ltb-true, ltb-false, le-leb, le-ltb, lt-ltb, not-false, or_parts}
+use Rattle.std.proofs.lemmas.Bool.{eqb-true, ltb-false, le-ltb, not-false, or_parts}
 use Rattle.std.proofs.lemmas.Bool.Decides.{nat_tests}
-use Rattle.std.proofs.lemmas.List.{append-nil, take_all, take_at, drop_at, take-take, drop-take, drop-drop, drop_more, get_or_at, drop_all, length-take-le, get_or-take, map-append}
-use Rattle.std.proofs.lemmas.List.Folds.{drop_split, list_any-append}
+use Rattle.std.proofs.lemmas.List.{append-nil, take_at, drop_at, take-take, drop-take, drop-drop, drop_more, drop_all, length-take-le, get_or-take, map-append}
+use Rattle.std.proofs.lemmas.List.Folds.{list_any-append}
 use Rattle.std.proofs.lemmas.List.FromFn.{fill_by_all}
 use Rattle.std.proofs.lemmas.Option.{slice_get-get_or}
 use Rattle.avr_reloc.specs.Field.{AreBytes}
@@ -14,7 +14,7 @@ use Rattle.avr_reloc.proofs.Fixups.{AreBytes-slice, length-field, get_or-slice}
 use Rattle.component_package.specs.declared.manifest.Entry.{Entry}
 use Rattle.component_package.specs.declared.manifest.ManifestFault.{ManifestFault}
 use Rattle.component_package.specs.declared.manifest.ManifestFault.TheVariants.{Short, Count, Repeated, Length}
-use Rattle.component_package.specs.Numbers.{u16_at, u32_at, u16_bytes, u32_bytes}
+use Rattle.component_package.specs.Numbers.{u32_at, u32_bytes}
 use Rattle.component_package.specs.Reading.{first_fault, list_of}
 use Rattle.component_package.specs.Manifest.{Release, AreDistinct, IsManifestEntry, IsRelease, SpellsRelease, manifest_entry_bytes, manifest_bytes, manifest_entry_at, manifest_entry, manifest_count, release_in, is_repeated, entry_fault, manifest_fault}
 use Rattle.component_package.specs.ManifestSteps.{size_fault, fault_of_entry}

@@ -1,12 +1,11 @@
 -- Stored releases and their pages.
-use Rattle.std.proofs.Common.{◌≡◌, ◌≢◌, ◌⊎◌, inl, inr, ℕ, zero, suc, ◌+◌, ◌-◌, ◌*◌, ◌/◌, ◌%◌, ◌<◌, ◌≤◌, ◌^◌, Bool, true, false, cond, eqb, Option, Some, None, List, [], ◌∷◌, ◌++◌, length, take, drop, get_or, map, replicate, refl, sym, ap, ap₂, subst, ◌∙◌, arith, slice_range, length-append, append_assoc}
+use Rattle.std.proofs.Common.{◌≡◌, inl, inr, ℕ, zero, suc, ◌+◌, ◌-◌, ◌*◌, ◌/◌, ◌%◌, ◌<◌, ◌≤◌, Bool, true, false, cond, eqb, Option, Some, None, List, [], ◌∷◌, ◌++◌, length, take, drop, get_or, map, replicate, refl, sym, ap, ap₂, subst, ◌∙◌, arith, slice_range, length-append}
 use Rattle.std.specs.Prelude.{slice_get, not, ◌&&◌, ◌||◌, nat_lt, is_none, is_some, All}
-use Rattle.std.specs.List.{flat_map, list_any, range_with_len, AllByRecursion, zip, concat}
-use Rattle.std.specs.Option.{option_or, option_map_or}
-use Rattle.std.proofs.lemmas.Bool.{eqb-true, ltb-true, ltb-false, le-leb, le-ltb, lt-ltb, not-false, and_parts, or_parts, cases_lt}
-use Rattle.std.proofs.lemmas.List.{append-nil, take_all, take_at, drop_at, take-take, drop-take, drop-drop, drop_more, get_or_at, drop_all, length-take-le, get_or-take, map-append, take-append-drop, take-replicate, drop-replicate, take-append-le, drop-append-le, length-replicate, length-drop, get_or_append_left, get_or-append_right}
+use Rattle.std.specs.List.{flat_map, list_any, range_with_len, zip, concat}
+use Rattle.std.specs.Option.{option_map_or}
+use Rattle.std.proofs.lemmas.Bool.{ltb-true, ltb-false, lt-ltb, and_parts, or_parts, cases_lt}
+use Rattle.std.proofs.lemmas.List.{take-take, drop-take, drop-drop, get_or_at, take-append-drop, take-replicate, drop-replicate, take-append-le, drop-append-le, length-replicate, length-drop, get_or_append_left, get_or-append_right}
 use Rattle.std.proofs.lemmas.List.Elements.{All-head, All-tail}
-use Rattle.std.proofs.lemmas.List.FromFn.{fill_by_all}
 use Rattle.std.proofs.Math.Seq.{drop-append_seam, drop-append-add}
 use Rattle.avr_reloc.specs.Field.{AreBytes}
 use Rattle.avr_reloc.proofs.Fixups.{AreBytes-slice, length-field, get_or-slice}
@@ -15,10 +14,10 @@ use Rattle.component_package.specs.declared.manifest.SlotManifest.{SlotManifest}
 use Rattle.component_package.specs.declared.manifest.ManifestFault.TheVariants.{Repeated, Length}
 use Rattle.component_package.specs.Numbers.{u32_at, u32_bytes}
 use Rattle.component_package.specs.Reading.{first_fault, list_of}
-use Rattle.component_package.specs.Manifest.{StoredRelease, Placed, AreDistinct, IsManifestEntry, IsStored, IsSlotManifest, Stores, manifest_entry_bytes, manifest_entry_at, stored_of, stored_bytes, placed_bytes, placed_at, stored_in}
+use Rattle.component_package.specs.Manifest.{StoredRelease, Placed, IsManifestEntry, IsStored, IsSlotManifest, Stores, manifest_entry_bytes, manifest_entry_at, stored_of, stored_bytes, placed_bytes, placed_at, stored_in}
 use Rattle.component_package.specs.ManifestSteps.{fault_of_entry, is_place, place_fault, block_of}
-use Rattle.component_package.proofs.First.{none_or, no_fault, none_first, passed}
-use Rattle.component_package.proofs.Lists.{list_of_more, length-list_of, all_of_list, all_at, list_of_entries}
+use Rattle.component_package.proofs.First.{no_fault, none_first, passed}
+use Rattle.component_package.proofs.Lists.{length-list_of, all_of_list, all_at, list_of_entries}
 use Rattle.component_package.proofs.ManifestLemmas.{entry_among, length-among, entry_wide, entry_passes, entry_again, entry_from_slice, number_again, element_at, apart_before, distinct_list, list_of-front}
 
 -- the first a + m elements are the first a and the m after them

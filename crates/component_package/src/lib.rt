@@ -67,4 +67,6 @@ pub fn stored_release_is_one()
 {}
 
 #[cfg(test)]
+mod manifest_tests;
+#[cfg(test)]
 mod tests;

@@ -121,7 +121,7 @@ fn size_fault(bytes: &[u8]) -> Option<ManifestFault>
     if count == 0 {
         return Some(ManifestFault::Count(count));
     }
-    if count > 16 {
+    if 16 < count {
         return Some(ManifestFault::Count(count));
     }
     if bytes.len() != 5 + 38 * count as usize {

@@ -1,4 +1,4 @@
-use Rattle.std.proofs.Common.{◌≡◌, ◌≤◌, ℕ, ◌∷◌, List, [], Option, length, replicate, sym, ap, ◌∙◌, arith, rules}
+use Rattle.std.proofs.Common.{◌≡◌, ℕ, [], Option, length, replicate, sym, ap, ◌∙◌, arith, rules}
 use Rattle.std.specs.Option.{option_map_or}
 use Rattle.component_package.specs.declared.manifest.Entry.{Entry}
 use Rattle.component_package.specs.Manifest.{Placed, placed_bytes, stored_of}

@@ -1,4 +1,4 @@
-use Rattle.std.proofs.Common.{◌≡◌, ℕ, ◌<◌, ◌≤◌, ◌+◌, ◌-◌, ◌*◌, ◌++◌, ◌∷◌, Bool, false, List, [], length, get_or, take, drop, refl, sym, ap, ap₂, subst, ◌∙◌, arith, rules, slice_range}
+use Rattle.std.proofs.Common.{◌≡◌, ℕ, ◌<◌, ◌+◌, ◌-◌, ◌*◌, ◌++◌, ◌∷◌, Bool, false, List, [], length, get_or, take, drop, refl, sym, ap, ap₂, subst, ◌∙◌, arith, rules, slice_range}
 use Rattle.std.specs.Prelude.{IsTrue}
 use Rattle.std.specs.List.{concat}
 use Rattle.std.proofs.lemmas.Bool.{false≢true}

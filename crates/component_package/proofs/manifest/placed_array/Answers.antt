@@ -1,4 +1,4 @@
-use Rattle.std.proofs.Common.{◌≡◌, suc, ◌+◌, ◌++◌, ◌∷◌, ℕ, List, [], length, drop, set, replicate, refl, sym, ap, ◌∙◌, rules}
+use Rattle.std.proofs.Common.{◌≡◌, suc, ◌+◌, ◌++◌, ◌∷◌, ℕ, List, length, drop, set, replicate, ap, ◌∙◌, rules}
 use Rattle.std.proofs.lemmas.List.{set_at}
 use Rattle.component_package.proofs.manifest.placed_array.Goals as goal
 

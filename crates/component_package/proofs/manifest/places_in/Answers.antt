@@ -1,10 +1,10 @@
-use Rattle.std.proofs.Common.{◌≡◌, ℕ, ◌<◌, ◌≤◌, ◌+◌, ◌*◌, ◌/◌, ◌%◌, ◌++◌, ◌∷◌, Bool, true, false, cond, Option, Some, None, List, [], length, get_or, take, drop, refl, sym, ap, ap₂, subst, ◌∙◌, arith, rules, add-one}
-use Rattle.std.specs.Prelude.{is_none, is_some}
+use Rattle.std.proofs.Common.{◌≡◌, ℕ, ◌<◌, ◌≤◌, ◌+◌, ◌*◌, ◌/◌, ◌%◌, ◌++◌, ◌∷◌, Bool, cond, Some, None, List, [], length, get_or, take, refl, sym, ap, ap₂, subst, ◌∙◌, arith, rules, add-one}
+use Rattle.std.specs.Prelude.{is_some}
 use Rattle.std.specs.List.{concat}
 use Rattle.std.proofs.lemmas.List.{take_more_set, length-set}
 use Rattle.component_package.specs.declared.manifest.Entry.{Entry}
-use Rattle.component_package.specs.Reading.{first_fault, list_of}
-use Rattle.component_package.specs.Manifest.{Placed, placed_at, manifest_entry_at}
+use Rattle.component_package.specs.Reading.{list_of}
+use Rattle.component_package.specs.Manifest.{Placed, placed_at}
 use Rattle.component_package.specs.ManifestSteps.{is_place, place_fault}
 use Rattle.component_package.proofs.First.{first_fault-at, first_fault-more}
 use Rattle.component_package.proofs.Lists.{list_of_more}

@@ -1,11 +1,11 @@
-use Rattle.std.proofs.Common.{◌≡◌, ℕ, ◌<◌, ◌≤◌, Bool, true, false, None, Some, List, [], length, get_or, refl, sym, ap, subst, ◌∙◌, arith, rules}
-use Rattle.std.specs.Prelude.{IfNone, IsTrue, is_some}
+use Rattle.std.proofs.Common.{◌≡◌, ◌≤◌, None, [], get_or, sym, ap, ◌∙◌, arith}
+use Rattle.std.specs.Prelude.{is_some}
 use Rattle.std.specs.List.{concat}
 use Rattle.std.proofs.lemmas.Bool.{false≢true}
 use Rattle.component_package.specs.Reading.{first_fault}
-use Rattle.component_package.specs.Manifest.{StoredRelease, Stores, stored_of, stored_bytes, stored_in}
+use Rattle.component_package.specs.Manifest.{StoredRelease, Stores, stored_of, stored_bytes}
 use Rattle.component_package.specs.ManifestSteps.{place_fault}
-use Rattle.component_package.proofs.StoredLemmas.{IsRead, is_read, stored_again, stored_few, stored_stands, first_page_byte}
+use Rattle.component_package.proofs.StoredLemmas.{is_read, stored_again, stored_few, stored_stands, first_page_byte}
 use Rattle.component_package.proofs.manifest.read_slot_pages.Goals as goal
 
 pub returns-then-count-gt16-clause-none : goal.returns-then-count-gt16-clause-none

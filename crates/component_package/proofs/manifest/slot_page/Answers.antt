@@ -1,6 +1,6 @@
-use Rattle.std.proofs.Common.{◌≡◌, ◌≤◌, ◌<◌, ◌+◌, ◌-◌, ◌*◌, ◌++◌, ℕ, ◌∷◌, List, [], length, take, drop, replicate, refl, sym, ap, ap₂, subst, ◌∙◌, arith, rules, slice_range, length-append, append_assoc}
+use Rattle.std.proofs.Common.{◌≡◌, ◌≤◌, ◌<◌, ◌+◌, ◌-◌, ◌*◌, ◌++◌, ℕ, ◌∷◌, List, length, take, drop, replicate, refl, sym, ap, ap₂, ◌∙◌, arith, rules, slice_range, length-append, append_assoc}
 use Rattle.std.specs.List.{flat_map}
-use Rattle.std.proofs.lemmas.List.{take_at, take_all, drop-drop, length-take-le}
+use Rattle.std.proofs.lemmas.List.{take_at, drop-drop, length-take-le}
 use Rattle.component_package.specs.declared.manifest.Entry.{Entry}
 use Rattle.component_package.specs.Numbers.{u32_bytes}
 use Rattle.component_package.specs.Manifest.{Placed, StoredRelease, stored_bytes, stored_of, placed_bytes}

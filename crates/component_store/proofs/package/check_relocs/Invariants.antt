@@ -1,0 +1,19 @@
+use Rattle.std.proofs.Common.{◌≡◌, Some, None}
+use Rattle.flash_pages.specs.State.{State}
+use Rattle.flash_pages.specs.Board.{Reads}
+use Rattle.component_package.specs.Reading.{reloc_fault, reloc_before, first_fault}
+use Rattle.component_store.specs.Reader.{IsUnder, held_package}
+use Rattle.component_store.proofs.package.check_relocs.Given as goal
+
+-- no relocation so far has a fault, and the last one is kept
+abbrev pub invariant-loop-i : goal.invariant-loop-i
+invariant-loop-i g l = record {
+  slot : l.table.slot ≡ l.fn.table.slot;
+  field_slot : l.fields.slot ≡ l.fn.table.slot;
+  under : (s : State) → (g.B.Board.view l.fn.board).state ≡ Some s → IsUnder s l.fn.table l.h → IsUnder s l.table l.h;
+  fields_under : (s : State) → (g.B.Board.view l.fn.board).state ≡ Some s → IsUnder s l.fn.table l.h → IsUnder s l.fields l.h;
+  none : (s : State) → (g.B.Board.view l.fn.board).state ≡ Some s → IsUnder s l.fn.table l.h → first_fault (reloc_fault (held_package s l.fn.table.slot l.h)) l.i ≡ None;
+  before : (s : State) → (g.B.Board.view l.fn.board).state ≡ Some s → IsUnder s l.fn.table l.h → l.before ≡ reloc_before (held_package s l.fn.table.slot l.h) l.i;
+  reads : Reads (g.B.Board.view l.fn.board) (g.B.Board.view l.board);
+  fault : (g.B.Board.view l.board).flash_faults ≡ (g.B.Board.view l.fn.board).flash_faults;
+}
