@@ -1,6 +1,7 @@
 -- What a mote that knows one slot and no release answers, and what it does to its flashes.
 use Rattle.std.specs.Prelude.{ℕ, suc, zero, ◌+◌, List, [], ◌∷◌, ◌++◌, Bool, ◌==◌, ◌&&◌, ◌||◌, not, nat_lt, nat_le, if◌then◌else◌, length, take, drop, replicate, slice_index, slice_set, Option, Some, None}
 use Rattle.std.specs.List.{concat}
+use Rattle.component_package.specs.declared.areas.TheConstants.{SLOTS, SLOT_PAGES}
 use Rattle.component_package.specs.declared.part.Header.{Header}
 use Rattle.component_package.specs.declared.fault.PackageFault.{PackageFault}
 use Rattle.component_package.specs.declared.answer.Answer.{Answer}
@@ -16,7 +17,7 @@ pub record Flash : Type 0 where
 
 -- the bytes of slot 0: 39 pages from page 786 on
 unfoldable pub slot_of : Flash → List ℕ
-slot_of flash = concat (take 39 (drop 786 flash.ext))
+slot_of flash = concat (take SLOT_PAGES (drop SLOTS flash.ext))
 
 -- a page that begins with these bytes and is 0xFF from there
 unfoldable pub filled_page : List ℕ → List ℕ
@@ -45,7 +46,7 @@ boot_answer None h = if is_plain h then Booted 1 else NotYet
 
 -- ordinal 0, a page of the slot, and 1 to 256 bytes
 abbrev pub is_piece : List ℕ → Bool
-is_piece payload = nat_le 3 (length payload) && nat_le (length payload) 258 && (slice_index payload 0 == 0) && nat_lt (slice_index payload 1) 39
+is_piece payload = nat_le 3 (length payload) && nat_le (length payload) 258 && (slice_index payload 0 == 0) && nat_lt (slice_index payload 1) SLOT_PAGES
 
 abbrev pub piece_answer : List ℕ → Answer
 piece_answer payload = if is_piece payload then Piece 0 (slice_index payload 1) else BadPiece
@@ -68,7 +69,7 @@ slot_code flash = take (header_of (slot_head flash)).code (drop 32 (slot_of flas
 
 -- the flashes after a frame with this payload was answered so: a piece is stored in its page, a boot fills program flash with the code
 abbrev pub after_answer : Answer → List ℕ → Flash → Flash
-after_answer (Piece k p) payload flash = record flash { ext = slice_set flash.ext (786 + p) (filled_page (drop 2 payload)) }
+after_answer (Piece k p) payload flash = record flash { ext = slice_set flash.ext (SLOTS + p) (filled_page (drop 2 payload)) }
 after_answer (Booted n) payload flash = record flash { prog = filled_pages 480 (slot_code flash) }
 after_answer answer payload flash = flash
 

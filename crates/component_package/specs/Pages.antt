@@ -1,11 +1,10 @@
 -- The pages of an image, as the areas give them.
-use Rattle.std.specs.Prelude.{◌≡◌, ℕ, pos, ◌+◌, ◌-◌, ◌*◌, ◌≤◌, true, not, ◌==◌, List, ◌++◌, length, map, replicate, slice_range, Option, Some, None, is_some}
+use Rattle.std.specs.Prelude.{◌≡◌, ℕ, ◌+◌, ◌-◌, ◌*◌, true, not, ◌==◌, List, ◌++◌, length, map, replicate, slice_range, Option, Some, is_some}
 use Rattle.std.specs.List.{filter, find, list_any, range_with_len, AllByRecursion}
 use Rattle.std.specs.Option.{option_map}
 use Rattle.avr_reloc.specs.declared.fixup.Fixup.{Fixup}
-use Rattle.avr_reloc.specs.Kind.{fault_of}
 use Rattle.avr_reloc.specs.Field.{AreBytes}
-use Rattle.avr_reloc.specs.Fixups.{ArePut, end_of}
+use Rattle.avr_reloc.specs.Fixups.{ArePut, CanBePut}
 use Rattle.component_package.specs.declared.part.Site.{Site}
 use Rattle.component_package.specs.declared.part.Export.{Export}
 use Rattle.component_package.specs.Component.{Component}
@@ -47,10 +46,9 @@ page_in whole p = slice_range whole (256 * p) (256 * p + 256)
 abbrev pub cut : List ℕ → List (List ℕ)
 cut whole = map (page_in whole) (range_with_len 0 480)
 
--- these fields can be patched in so many bytes
-pub record IsFitting (total : ℕ) (x : Fixup) : Type 0 where
-  pub room : end_of x ≤ total
-  pub possible : fault_of x.kind x.s_plus_a (pos x.place) ≡ None
+-- a list fits a set: each of its fields lies in the set's code and data and can hold its value
+abbrev pub Fits : List Component → List Fixup → Type 0
+Fits set xs = AllByRecursion (CanBePut (length (plain_of set))) xs
 
 -- the bytes of all pages: the package's, with these fields patched, and 0xFF behind
 abbrev pub ArePatched : List Fixup → List ℕ → List ℕ → Type 0

@@ -1,6 +1,7 @@
 -- The parts of a mote's flashes that an update goes through: gates, the two sides, areas and slots.
 use Rattle.std.specs.Prelude.{ℕ, ◌==◌, ◌&&◌, nat_lt, Bool, true, false, List, [], take, drop, slice_index, slice_index_or, if◌then◌else◌}
 use Rattle.std.specs.List.{concat}
+use Rattle.component_package.specs.declared.areas.TheConstants.{MANIFEST_A, MANIFEST_B, SYMBOLS, RELOCATIONS, STAGED}
 use Rattle.component_package.specs.Store.{slots_of}
 
 -- the pages of the gates, in order: the flash is formatted; the other side is the incoming release; its symbols are merged; its relocations
@@ -57,11 +58,11 @@ abbrev pub parts_of : List (List ℕ) → List (List ℕ) → Parts
 parts_of prog ext = record {
   gates = λ gate. nat_lt gate 8 && is_open ext gate;
   prog = prog;
-  side_a = concat (pages_from 8 5 ext);
-  side_b = concat (pages_from 13 5 ext);
-  symbols = concat (pages_from 18 32 ext);
-  relocs = concat (pages_from 50 256 ext);
-  staged = pages_from 306 480 ext;
+  side_a = concat (pages_from MANIFEST_A 5 ext);
+  side_b = concat (pages_from MANIFEST_B 5 ext);
+  symbols = concat (pages_from SYMBOLS 32 ext);
+  relocs = concat (pages_from RELOCATIONS 256 ext);
+  staged = pages_from STAGED 480 ext;
   slots = slots_of ext;
 }
 

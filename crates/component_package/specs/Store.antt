@@ -3,6 +3,7 @@ use Rattle.std.specs.Prelude.{◌≡◌, ℕ, ◌+◌, ◌*◌, ◌==◌, ◌&&�
 use Rattle.std.specs.List.{concat, list_any, range_with_len, AllByRecursion}
 use Rattle.std.specs.Option.{option_or, option_map, option_and_then}
 use Rattle.sha2.specs.Sha256.{sha256}
+use Rattle.component_package.specs.declared.areas.TheConstants.{SLOTS, SLOT_PAGES}
 use Rattle.component_package.specs.declared.manifest.Entry.{Entry}
 use Rattle.component_package.specs.Component.{Component}
 use Rattle.component_package.specs.Reading.{package_fault, number_of_fault, component_of, header_of, first_fault}
@@ -13,7 +14,7 @@ use Rattle.component_package.specs.Manifest.{Release, Placed, StoredRelease}
 
 -- slot s: 39 pages from page 786 + 39 * s on, joined
 abbrev pub slot_at : List (List ℕ) → ℕ → List ℕ
-slot_at ext s = concat (take 39 (drop (786 + 39 * s) ext))
+slot_at ext s = concat (take SLOT_PAGES (drop (SLOTS + SLOT_PAGES * s) ext))
 
 -- the 32 slots
 unfoldable pub slots_of : List (List ℕ) → List (List ℕ)

@@ -21,7 +21,7 @@ use Rattle.component_package.specs.Component.{Component}
 use Rattle.component_package.specs.Grammar.{IsComponent}
 use Rattle.component_package.specs.Link.{Cause, Relocations, fixup_with, above, link_cause, room_cause, symbols_cause, relocations_cause, duplicate_cause, sites_cause, first_cause, site_cause, range_cause, rooms_of, sites_of, target_of, place_of_site, fixup_of, fixups_of, plain_of, IsImage}
 use Rattle.component_package.specs.Areas.{MergedSymbol, IsSymbol, FieldsRise, list_bytes, Lists}
-use Rattle.component_package.specs.Pages.{IsTableOf, address_in, listed, padded, cut, IsFitting, IsPatched, IsPages, in_image_order}
+use Rattle.component_package.specs.Pages.{IsTableOf, address_in, listed, padded, cut, Fits, IsPatched, IsPages, in_image_order}
 use Rattle.link_laws.specs.Sets.{IsSet}
 use Rattle.link_laws.specs.Laws.{SomeImage, SomePages}
 use Rattle.link_laws.proofs.Apart.{all_at_place, in_order, fields_of_set_apart}
@@ -136,12 +136,12 @@ rise_apart low [] rise = tt
 rise_apart low (x ∷ xs) rise = (later_apart x (end_of x) xs (omega arith) rise.1, rise_apart (end_of x) xs rise.1)
 
 -- fields that fit an image fit its pages
-fit_padded : (plain : List ℕ) (xs : List Fixup) → AllByRecursion (IsFitting (length plain)) xs → AllByRecursion (CanBePut (length (padded plain))) xs
+fit_padded : (plain : List ℕ) (xs : List Fixup) → AllByRecursion (CanBePut (length plain)) xs → AllByRecursion (CanBePut (length (padded plain))) xs
 fit_padded plain [] fit = tt
 fit_padded plain (x ∷ xs) fit = (record { room = omega (arith, fit.0.room, length-append plain (replicate {A = ℕ} (122880 - length plain) 255)); possible = fit.0.possible }, fit_padded plain xs fit.1)
 
 -- a list that fits has pages
-pub pages_exist : (set : List Component) (area : List ℕ) (xs : List Fixup) → IsSet set → Lists area xs → AllByRecursion (IsFitting (length (plain_of set))) xs → SomePages set xs
+pub pages_exist : (set : List Component) (area : List ℕ) (xs : List Fixup) → IsSet set → Lists area xs → Fits set xs → SomePages set xs
 pages_exist set area xs is l fit =
     let plain = plain_of set in
     let some = exists xs (padded plain) (padded_bytes plain (plain_bytes set is.components)) (AllPairs-from_apart xs (rise_apart 0 xs l.rise)) (All-from_recursion (CanBePut (length (padded plain))) xs (fit_padded plain xs fit)) in
@@ -186,21 +186,12 @@ own_list set table is none t =
     let no = no_cause set none in
     list_has_room set table is no.room (table_has_room set table is no.room t) (omega (arith, few_sites set no.relocations, ordered_length (sites_of set), length-map (in_image_order (sites_of set)) (fixup_with (address_in table) set)))
 
--- a field that can be put fits
-fits : (n : ℕ) (x : Fixup) → CanBePut n x → IsFitting n x
-fits n x can = record { room = can.room; possible = can.possible }
-
--- what follows of each follows of all
-all_weaker : {X : Type 0} (P Q : X → Type 0) → ((x : X) → P x → Q x) → (xs : List X) → AllByRecursion P xs → AllByRecursion Q xs
-all_weaker P Q each [] all = tt
-all_weaker P Q each (x ∷ xs) all = (each x all.0, all_weaker P Q each xs all.1)
-
 -- a set's own list fits the set
-pub own_list_fits : (set : List Component) (table : List MergedSymbol) → IsSet set → link_cause set ≡ None → IsTableOf set table → AllByRecursion (IsFitting (length (plain_of set))) (listed set table)
+pub own_list_fits : (set : List Component) (table : List MergedSymbol) → IsSet set → link_cause set ≡ None → IsTableOf set table → Fits set (listed set table)
 own_list_fits set table is none t =
     let can = fields_can_be_put set is.components (no_cause set none).sites in
-    subst (λ (xs : List Fixup). AllByRecursion (IsFitting (length (plain_of set))) xs) (sym (same_list set table t))
-    (all_ordered (IsFitting (length (plain_of set))) (fixup_of set) (sites_of set) (all_weaker (CanBePut (length (plain_of set))) (IsFitting (length (plain_of set))) (fits (length (plain_of set))) (fixups_of set) can))
+    subst (λ (xs : List Fixup). AllByRecursion (CanBePut (length (plain_of set))) xs) (sym (same_list set table t))
+    (all_ordered (CanBePut (length (plain_of set))) (fixup_of set) (sites_of set) can)
 
 -- the set's pages are patched from its list
 pub pages_patched : (set : List Component) (table : List MergedSymbol) (pages : List (List ℕ)) → IsTableOf set table → IsPages set pages → IsPatched set (listed set table) pages

@@ -4,9 +4,9 @@ use Rattle.std.specs.List.{AllByRecursion, AllPairs}
 use Rattle.avr_reloc.specs.declared.fixup.Fixup.{Fixup}
 use Rattle.avr_reloc.specs.Fixups.{AreApart}
 use Rattle.component_package.specs.Component.{Component}
-use Rattle.component_package.specs.Link.{Cause, link_cause, room_cause, rooms_of, plain_of, fixups_of, IsImage}
+use Rattle.component_package.specs.Link.{Cause, link_cause, room_cause, rooms_of, fixups_of, IsImage}
 use Rattle.component_package.specs.Areas.{MergedSymbol, IsSymbol, table_bytes, Tells, FieldsRise, list_bytes, Lists}
-use Rattle.component_package.specs.Pages.{IsTableOf, listed, IsFitting, IsPatched, IsPages}
+use Rattle.component_package.specs.Pages.{IsTableOf, listed, Fits, IsPatched, IsPages}
 use Rattle.link_laws.specs.Sets.{IsSet}
 
 -- ---- Images
@@ -65,7 +65,7 @@ pub record OwnListFits : Type 0 where
   pub lists : (set : List Component) (table : List MergedSymbol) → IsSet set → link_cause set ≡ None → IsTableOf set table
       → Lists (list_bytes (listed set table)) (listed set table)
   pub fits : (set : List Component) (table : List MergedSymbol) → IsSet set → link_cause set ≡ None → IsTableOf set table
-      → AllByRecursion (IsFitting (length (plain_of set))) (listed set table)
+      → Fits set (listed set table)
 
 -- ---- Pages
 
@@ -77,7 +77,7 @@ pub record SomePages (set : List Component) (xs : List Fixup) : Type 0 where
 -- a relocation list that fits a set has its pages, which are one list of pages
 pub record FittingListHasPages : Type 0 where
   pub exist : (set : List Component) (area : List ℕ) (xs : List Fixup) → IsSet set → Lists area xs
-      → AllByRecursion (IsFitting (length (plain_of set))) xs → SomePages set xs
+      → Fits set xs → SomePages set xs
   pub one : (set : List Component) (xs : List Fixup) (p q : List (List ℕ)) → IsPatched set xs p → IsPatched set xs q → p ≡ q
 
 -- for a set without a cause and its own table, the pages patched from its list are its image's pages, and no others are
