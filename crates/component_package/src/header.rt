@@ -32,6 +32,13 @@ pub(crate) fn header_in(bytes: &[u8]) -> Header
 }
 
 impl Header {
+    /// The fields that 32 bytes spell, whatever is wrong with them: [`read_header`] tells.
+    pub fn of_bytes(raw: &[u8; 32]) -> Header
+        ensures { result ≡ header_of raw.now }
+    {
+        header_in(raw)
+    }
+
     /// How long the package is that this header begins.
     pub fn total(&self) -> u32
         ensures { result ≡ total_of self.now }

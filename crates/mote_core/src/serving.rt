@@ -3,7 +3,6 @@
 ghost use Rattle.std.specs.Prelude.{◌≡◌, ◌+◌, ◌-◌, ◌*◌, min, ◌<◌, ◌≤◌, ◌++◌, [], OnOk, OnErr, IfOk, Some, take, drop, length, replicate};
 ghost use Rattle.flash_pages.specs.State.{State};
 ghost use Rattle.flash_pages.specs.Board.{UsesFlash, Rose};
-ghost use Rattle.component_package.specs.Numbers.{u16_at};
 ghost use Rattle.component_package.specs.Reading.{header_of};
 ghost use Rattle.component_package.specs.FirstMachine.{answer_of, after_answer, piece_answer, boot_answer, is_plain, slot_fault, slot_head, filled_page, filled_pages, slot_of};
 ghost use Rattle.mote_core.specs.Reading.{frame_of};
@@ -153,29 +152,6 @@ fn first_bytes(page: &[u8; 256]) -> [u8; 32]
     raw
 }
 
-// The little-endian number at a place.
-fn number_at(raw: &[u8; 32], at: usize) -> u16
-    requires { at + 1 < 32 }
-    ensures { result ≡ u16_at raw.now at }
-{
-    u16::from_le_bytes([raw[at], raw[at + 1]])
-}
-
-// The fields of a header, of which nothing is known yet.
-fn fields_of(raw: &[u8; 32]) -> Header
-    ensures { result ≡ header_of raw.now }
-{
-    Header {
-        component: number_at(raw, 4),
-        version: number_at(raw, 6),
-        code: number_at(raw, 8),
-        init: number_at(raw, 10),
-        bss: number_at(raw, 12),
-        exports: number_at(raw, 14),
-        relocs: number_at(raw, 16),
-    }
-}
-
 // Whether there is code and nothing else.
 fn is_code_alone(h: &Header) -> bool
     ensures { result ≡ is_plain h.now }
@@ -199,7 +175,7 @@ fn serve_boot<B: Board>(board: &mut B) -> Result<Answer, Failed>
         return Err(Failed);
     };
     let raw = first_bytes(&page);
-    match read_header(&raw, fields_of(&raw).total()) {
+    match read_header(&raw, Header::of_bytes(&raw).total()) {
         Err(fault) => Ok(Answer::BadPackage(0, fault.number())),
         Ok(h) => {
             if !is_code_alone(&h) {
