@@ -3,7 +3,7 @@ use Rattle.std.proofs.Common.{◌≡◌, ℕ, zero, suc, ◌+◌, ◌<◌, Bool,
 use Rattle.std.specs.Option.{option_or}
 use Rattle.std.specs.Result.{result_err}
 use Rattle.std.proofs.lemmas.Bool.{cases_order}
-use Rattle.component_package.specs.Reading.{first_fault}
+use Rattle.component_package.specs.packages.Reading.{first_fault}
 
 -- a fault behind no fault is the first one, however many may follow
 pub first_fault-at : {F : Type 0} (f : ℕ → Option F) (n i : ℕ) (x : F) → i < n → first_fault f i ≡ None → f i ≡ Some x → first_fault f n ≡ Some x

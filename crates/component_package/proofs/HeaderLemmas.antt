@@ -4,7 +4,7 @@ use Rattle.std.specs.Prelude.{not, nat_lt}
 use Rattle.std.proofs.lemmas.Bool.{ltb-false, not-false, eqb-true, leb-true, and_parts}
 use Rattle.avr_reloc.proofs.Fixups.{length-field}
 use Rattle.component_package.specs.declared.fault.PackageFault.TheVariants.{Short, Magic, Reserved, Parity, Length}
-use Rattle.component_package.specs.Reading.{header_of, total_of, header_fault, has_magic, is_blank, has_even_lengths, has_its_length, header_of_component, component_of, export_of, raw_export, reloc_of, raw_reloc}
+use Rattle.component_package.specs.packages.Reading.{header_of, total_of, header_fault, has_magic, is_blank, has_even_lengths, has_its_length, header_of_component, component_of, export_of, raw_export, reloc_of, raw_reloc}
 use Rattle.component_package.proofs.First.{passed}
 use Rattle.component_package.proofs.Lists.{length-list_of}
 

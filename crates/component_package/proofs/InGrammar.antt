@@ -14,10 +14,10 @@ use Rattle.avr_reloc.proofs.Fixups.{AreBytes-slice, length-field, get_or-slice}
 use Rattle.component_package.specs.declared.part.Export.{Export}
 use Rattle.component_package.specs.declared.part.Header.{Header}
 use Rattle.component_package.specs.declared.part.Reloc.{Reloc}
-use Rattle.component_package.specs.Numbers.{u16_at}
-use Rattle.component_package.specs.Component.{Component}
-use Rattle.component_package.specs.Reading.{header_of, exports_at, relocs_at, export_of, raw_export, symbol_before, reloc_width, reloc_end, is_inside, field_at, reloc_of, raw_reloc, reloc_before, raw_field, package_fault, component_of}
-use Rattle.component_package.specs.Grammar.{IsExport, ExportsRise, part_of_reloc, IsReloc, position_in, RelocsRise, IsComponent, Spells}
+use Rattle.component_package.specs.packages.Numbers.{u16_at}
+use Rattle.component_package.specs.packages.Component.{Component}
+use Rattle.component_package.specs.packages.Reading.{header_of, exports_at, relocs_at, export_of, raw_export, symbol_before, reloc_width, reloc_end, is_inside, field_at, reloc_of, raw_reloc, reloc_before, raw_field, package_fault, component_of}
+use Rattle.component_package.specs.packages.Grammar.{IsExport, ExportsRise, part_of_reloc, IsReloc, position_in, RelocsRise, IsComponent, Spells}
 use Rattle.component_package.proofs.Lists.{is_zero, all_zeros, Rises, rises_list, free_at, all_of_list}
 use Rattle.component_package.proofs.HeaderLemmas.{parts_have_lengths}
 use Rattle.component_package.proofs.Spelled.{good_export, IsGoodReloc, good_reloc, IsFaultless, faultless, spelled}

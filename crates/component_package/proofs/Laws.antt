@@ -7,7 +7,7 @@ use Rattle.std.proofs.lemmas.List.{get_or-take, drop-take, take-take}
 use Rattle.component_package.specs.declared.part.Header.{Header}
 use Rattle.component_package.specs.declared.fault.PackageFault.{PackageFault}
 use Rattle.component_package.specs.declared.fault.PackageFault.TheVariants.{Short, Magic, Reserved, Parity, Length}
-use Rattle.component_package.specs.Reading.{first_fault, header_of, header_fault, has_magic, has_even_lengths, has_its_length, export_fault, exports_fault, reloc_fault, package_fault}
+use Rattle.component_package.specs.packages.Reading.{first_fault, header_of, header_fault, has_magic, has_even_lengths, has_its_length, export_fault, exports_fault, reloc_fault, package_fault}
 use Rattle.component_package.specs.Laws.{FaultlessBytesSpell, SpellingIsOne, StepsFindTheFault, export_step, reloc_step, fault_by_steps}
 use Rattle.component_package.proofs.First.{first_fault-same}
 use Rattle.component_package.proofs.InGrammar.{spells}

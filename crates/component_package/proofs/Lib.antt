@@ -1,6 +1,4 @@
 pub mod Unique
-pub mod Examples
-mod MachineExamples
 pub mod First
 pub mod Lists
 pub mod HeaderLemmas

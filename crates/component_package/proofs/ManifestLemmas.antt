@@ -14,10 +14,10 @@ use Rattle.avr_reloc.proofs.Fixups.{AreBytes-slice, length-field, get_or-slice}
 use Rattle.component_package.specs.declared.manifest.Entry.{Entry}
 use Rattle.component_package.specs.declared.manifest.ManifestFault.{ManifestFault}
 use Rattle.component_package.specs.declared.manifest.ManifestFault.TheVariants.{Short, Count, Repeated, Length}
-use Rattle.component_package.specs.Numbers.{u32_at, u32_bytes}
-use Rattle.component_package.specs.Reading.{first_fault, list_of}
-use Rattle.component_package.specs.Manifest.{Release, AreDistinct, IsManifestEntry, IsRelease, SpellsRelease, manifest_entry_bytes, manifest_bytes, manifest_entry_at, manifest_entry, manifest_count, release_in, is_repeated, entry_fault, manifest_fault}
-use Rattle.component_package.specs.ManifestSteps.{size_fault, fault_of_entry}
+use Rattle.component_package.specs.packages.Numbers.{u32_at, u32_bytes}
+use Rattle.component_package.specs.packages.Reading.{first_fault, list_of}
+use Rattle.component_package.specs.packages.Manifest.{Release, AreDistinct, IsManifestEntry, IsRelease, SpellsRelease, manifest_entry_bytes, manifest_bytes, manifest_entry_at, manifest_entry, manifest_count, release_in, is_repeated, entry_fault, manifest_fault}
+use Rattle.component_package.specs.packages.ManifestSteps.{size_fault, fault_of_entry}
 use Rattle.component_package.proofs.First.{none_or, no_fault, none_first, passed}
 use Rattle.component_package.proofs.Lists.{entries, list_of_more, length-list_of, all_of_list, all_at, list_of_entries}
 

@@ -19,10 +19,10 @@ use Rattle.component_package.specs.declared.part.Header.{Header}
 use Rattle.component_package.specs.declared.part.Place.{Place}
 use Rattle.component_package.specs.declared.part.Place.TheVariants as places
 use Rattle.component_package.specs.declared.fault.PackageFault.TheVariants.{RelocPlace, RelocOrder, Target, FieldNotZero}
-use Rattle.component_package.specs.Numbers.{u16_at}
-use Rattle.component_package.specs.Component.{Component, export_bytes, reloc_bytes, header_bytes, spelling, number_of_place}
-use Rattle.component_package.specs.Reading.{header_of, header_of_component, exports_at, relocs_at, total_of, header_fault, has_magic, is_blank, is_even, has_even_lengths, has_its_length, export_of, raw_export, first_fault, symbol_before, export_fault, check_export_of, is_above, length_of, place_of, reloc_width, reloc_end, has_place_byte, has_place, is_inside, is_aligned, is_behind, has_target, is_clear, reloc_with, reloc_in, check_reloc_of, reloc_of, raw_reloc, reloc_before, field_at, raw_field, reloc_fault, package_fault, list_of, component_of}
-use Rattle.component_package.specs.Grammar.{IsExport, ExportsRise, part_of_reloc, IsReloc, position_in, RelocsRise, IsComponent}
+use Rattle.component_package.specs.packages.Numbers.{u16_at}
+use Rattle.component_package.specs.packages.Component.{Component, export_bytes, reloc_bytes, header_bytes, spelling, number_of_place}
+use Rattle.component_package.specs.packages.Reading.{header_of, header_of_component, exports_at, relocs_at, total_of, header_fault, has_magic, is_blank, is_even, has_even_lengths, has_its_length, export_of, raw_export, first_fault, symbol_before, export_fault, check_export_of, is_above, length_of, place_of, reloc_width, reloc_end, has_place_byte, has_place, is_inside, is_aligned, is_behind, has_target, is_clear, reloc_with, reloc_in, check_reloc_of, reloc_of, raw_reloc, reloc_before, field_at, raw_field, reloc_fault, package_fault, list_of, component_of}
+use Rattle.component_package.specs.packages.Grammar.{IsExport, ExportsRise, part_of_reloc, IsReloc, position_in, RelocsRise, IsComponent}
 use Rattle.component_package.proofs.First.{none_first}
 use Rattle.component_package.proofs.Lists.{is_zero, entry_in, length-entries, list_of_entries, all_at, Rises, rises_next, rises_above}
 use Rattle.component_package.proofs.InGrammar.{part_slice, length_of_part, widths}

@@ -19,9 +19,9 @@ use Rattle.component_package.specs.declared.part.Place.{Place}
 use Rattle.component_package.specs.declared.part.Place.TheVariants as places
 use Rattle.component_package.specs.declared.part.Header.{Header}
 use Rattle.component_package.specs.declared.part.Reloc.{Reloc}
-use Rattle.component_package.specs.Numbers.{u16_at}
-use Rattle.component_package.specs.Component.{export_bytes, reloc_bytes, header_bytes, spelling, number_of_place}
-use Rattle.component_package.specs.Reading.{header_of, exports_at, relocs_at, total_of, is_blank, has_magic, header_fault, place_of, length_of, is_above, check_export_of, export_in, export_of, raw_export, symbol_before, export_fault, exports_fault, is_inside, is_aligned, is_behind, has_target, is_clear, reloc_with, reloc_in, reloc_of, raw_reloc, reloc_before, raw_field, reloc_fault, relocs_fault, package_fault, component_of}
+use Rattle.component_package.specs.packages.Numbers.{u16_at}
+use Rattle.component_package.specs.packages.Component.{export_bytes, reloc_bytes, header_bytes, spelling, number_of_place}
+use Rattle.component_package.specs.packages.Reading.{header_of, exports_at, relocs_at, total_of, is_blank, has_magic, header_fault, place_of, length_of, is_above, check_export_of, export_in, export_of, raw_export, symbol_before, export_fault, exports_fault, is_inside, is_aligned, is_behind, has_target, is_clear, reloc_with, reloc_in, reloc_of, raw_reloc, reloc_before, raw_field, reloc_fault, relocs_fault, package_fault, component_of}
 use Rattle.component_package.proofs.First.{none_or, no_fault, chosen, spared}
 use Rattle.component_package.proofs.Lists.{all_zeros, cells, entries}
 use Rattle.component_package.proofs.HeaderLemmas.{good_header, IsGoodHeader, parts_have_lengths}

@@ -13,7 +13,7 @@ use Rattle.component_package.specs.declared.part.Reloc.{Reloc}
 use Rattle.component_package.specs.declared.part.Header.{Header}
 use Rattle.component_package.specs.declared.fault.PackageFault.{PackageFault}
 use Rattle.component_package.specs.declared.fault.PackageFault.TheVariants.{RelocPlace, RelocOrder, Target, FieldNotZero}
-use Rattle.component_package.specs.Reading.{header_of, header_fault, place_of, check_export_of, export_in, export_of, raw_export, symbol_before, export_fault, exports_fault, has_place_byte, is_inside, has_place, is_behind, has_target, is_clear, check_reloc_of, reloc_in, reloc_with, reloc_of, raw_reloc, reloc_before, raw_field, reloc_fault, relocs_fault, span_in, field_span_of, package_fault}
+use Rattle.component_package.specs.packages.Reading.{header_of, header_fault, place_of, check_export_of, export_in, export_of, raw_export, symbol_before, export_fault, exports_fault, has_place_byte, is_inside, has_place, is_behind, has_target, is_clear, check_reloc_of, reloc_in, reloc_with, reloc_of, raw_reloc, reloc_before, raw_field, reloc_fault, relocs_fault, span_in, field_span_of, package_fault}
 use Rattle.component_package.specs.Laws.{spanned_field, reloc_step}
 
 -- ---- choices that came to a value

@@ -12,10 +12,10 @@ use Rattle.avr_reloc.proofs.Fixups.{AreBytes-slice, length-field, get_or-slice}
 use Rattle.component_package.specs.declared.manifest.Entry.{Entry}
 use Rattle.component_package.specs.declared.manifest.SlotManifest.{SlotManifest}
 use Rattle.component_package.specs.declared.manifest.ManifestFault.TheVariants.{Repeated, Length}
-use Rattle.component_package.specs.Numbers.{u32_at, u32_bytes}
-use Rattle.component_package.specs.Reading.{first_fault, list_of}
-use Rattle.component_package.specs.Manifest.{StoredRelease, Placed, IsManifestEntry, IsStored, IsSlotManifest, Stores, manifest_entry_bytes, manifest_entry_at, stored_of, stored_bytes, placed_bytes, placed_at, stored_in}
-use Rattle.component_package.specs.ManifestSteps.{fault_of_entry, is_place, place_fault, block_of}
+use Rattle.component_package.specs.packages.Numbers.{u32_at, u32_bytes}
+use Rattle.component_package.specs.packages.Reading.{first_fault, list_of}
+use Rattle.component_package.specs.packages.Manifest.{StoredRelease, Placed, IsManifestEntry, IsStored, IsSlotManifest, Stores, manifest_entry_bytes, manifest_entry_at, stored_of, stored_bytes, placed_bytes, placed_at, stored_in}
+use Rattle.component_package.specs.packages.ManifestSteps.{fault_of_entry, is_place, place_fault, block_of}
 use Rattle.component_package.proofs.First.{no_fault, none_first, passed}
 use Rattle.component_package.proofs.Lists.{length-list_of, all_of_list, all_at, list_of_entries}
 use Rattle.component_package.proofs.ManifestLemmas.{entry_among, length-among, entry_wide, entry_passes, entry_again, entry_from_slice, number_again, element_at, apart_before, distinct_list, list_of-front}

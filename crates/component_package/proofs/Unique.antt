@@ -1,7 +1,7 @@
 -- Two readings of one list of bytes are the same.
 use Rattle.std.proofs.Common.{◌≡◌, ℕ, ◌+◌, ◌*◌, ◌/◌, ◌%◌, ◌<◌, ◌≤◌, List, [], ◌∷◌, ◌++◌, Bool, true, false, ◌||◌, IsTrue, length, refl, sym, ap, ◌∙◌, arith, append_assoc, inl, inr}
 use Rattle.std.proofs.lemmas.List.{length-append}
-use Rattle.component_package.specs.Frames.{Frame, IsFrame, frame_bytes, stream_of, OnlyLastEnds, has_end, is_end, IsPartial}
+use Rattle.component_package.specs.mote.Frames.{Frame, IsFrame, frame_bytes, stream_of, OnlyLastEnds, has_end, is_end, IsPartial}
 use Rattle.component_package.specs.Laws.{FramesAreOne}
 
 -- lists that begin alike and are as long

@@ -7,11 +7,11 @@ use Rattle.component_package.specs.declared.part.Export.{Export}
 use Rattle.component_package.specs.declared.part.Header.{Header}
 use Rattle.component_package.specs.declared.part.Reloc.{Reloc}
 use Rattle.component_package.specs.declared.fault.PackageFault.{PackageFault}
-use Rattle.component_package.specs.Component.{Component}
-use Rattle.component_package.specs.Reading.{first_fault, header_of, header_fault, check_export_of, raw_export, symbol_before, export_of, check_reloc_of, raw_reloc, reloc_before, reloc_of, field_span_of, package_fault, component_of}
-use Rattle.component_package.specs.Grammar.{Spells}
-use Rattle.component_package.specs.Manifest.{Release, StoredRelease, SpellsRelease, Stores, manifest_fault, release_in, stored_in}
-use Rattle.component_package.specs.Frames.{Frame, Frames}
+use Rattle.component_package.specs.packages.Component.{Component}
+use Rattle.component_package.specs.packages.Reading.{first_fault, header_of, header_fault, check_export_of, raw_export, symbol_before, export_of, check_reloc_of, raw_reloc, reloc_before, reloc_of, field_span_of, package_fault, component_of}
+use Rattle.component_package.specs.packages.Grammar.{Spells}
+use Rattle.component_package.specs.packages.Manifest.{Release, StoredRelease, SpellsRelease, Stores, manifest_fault, release_in, stored_in}
+use Rattle.component_package.specs.mote.Frames.{Frame, Frames}
 
 -- the frames of a list of bytes are one list, and so is the rest
 abbrev pub FramesAreOne : Type 0

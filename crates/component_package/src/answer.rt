@@ -52,8 +52,6 @@ pub enum Answer {
     Status(u32, u32, u8),
     /// `aborted`: no release comes in any more.
     Aborted,
-    /// `not yet`: what this version of the mote doesn't do.
-    NotYet,
     /// The session ends; there is no line.
     Ended,
     /// External flash isn't formatted, and the session ends; there is no line.

@@ -2,7 +2,7 @@
 
 ghost use Rattle.std.specs.Prelude.{◌≡◌};
 ghost use Rattle.std.specs.Option.{option_copied};
-ghost use Rattle.component_package.specs.Reading.{place_of, length_of, is_above, check_export_of, has_place_byte, is_inside, is_aligned, has_place, begins_after, is_behind, has_target, is_clear, reloc_with, check_reloc_of, field_at, field_span_of};
+ghost use Rattle.component_package.specs.packages.Reading.{place_of, length_of, is_above, check_export_of, has_place_byte, is_inside, is_aligned, has_place, begins_after, is_behind, has_target, is_clear, reloc_with, check_reloc_of, field_at, field_span_of};
 
 use crate::fault::PackageFault;
 use crate::header::u16_in;

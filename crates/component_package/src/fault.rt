@@ -33,7 +33,7 @@ pub enum PackageFault {
 }
 
 impl PackageFault {
-    ghost use Rattle.component_package.specs.Reading.{number_of_fault};
+    ghost use Rattle.component_package.specs.packages.Reading.{number_of_fault};
 
     /// The number of the fault, 1 to 12, as the line `bad package` says it.
     pub fn number(&self) -> u8

@@ -2,10 +2,11 @@
 
 ghost use Rattle.std.specs.Prelude.{◌≡◌, ◌+◌, ◌<◌, ◌≤◌, length, IfOk};
 ghost use Rattle.std.specs.Result.{result_err};
-ghost use Rattle.component_package.specs.Numbers.{u16_at};
-ghost use Rattle.component_package.specs.Reading.{header_of, total_of, header_fault, has_magic, is_blank, has_even_lengths, has_its_length};
+ghost use Rattle.component_package.specs.packages.Numbers.{u16_at};
+ghost use Rattle.component_package.specs.packages.Reading.{header_of, total_of, header_fault, has_magic, is_blank, has_even_lengths, has_its_length};
 
 use crate::fault::PackageFault;
+use crate::limits::PACKAGE_BYTES;
 use crate::part::Header;
 
 /// The little-endian number at a place.
@@ -70,7 +71,7 @@ fn has_even_lengths(h: &Header) -> bool
 fn has_its_length(h: &Header, count: usize) -> bool
     ensures { result ≡ has_its_length h.now count }
 {
-    count == h.total() as usize && count <= 9984
+    count == h.total() as usize && count <= PACKAGE_BYTES as usize
 }
 
 // What is wrong with the header of a package of so many bytes.

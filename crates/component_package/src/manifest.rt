@@ -1,15 +1,17 @@
 //! Manifests: what a release consists of, and where the mote keeps its packages.
 
-ghost use Rattle.std.specs.Prelude.{All, ◌≡◌, ◌==◌, ◌↔◌, ◌+◌, ◌*◌, ◌<◌, ◌≤◌, ◌^◌, ◌++◌, ◌∷◌, [], is_none, is_some, IsTrue, IfOk, IfSome, IfNone, length, take, drop, replicate, slice_get, slice_range};
+ghost use Rattle.std.specs.Prelude.{All, ◌≡◌, ◌==◌, ◌↔◌, ◌+◌, ◌*◌, ◌<◌, ◌≤◌, ◌^◌, ◌++◌, ◌∷◌, [], is_none, is_some, is_err, IsTrue, IfOk, IfSome, IfNone, length, take, drop, replicate, slice_get, slice_range};
 ghost use Rattle.std.specs.List.{concat, list_any};
 ghost use Rattle.std.specs.Result.{result_err};
 ghost use Rattle.avr_reloc.specs.Field.{AreBytes};
-ghost use Rattle.component_package.specs.Numbers.{u16_bytes, u32_at, u32_bytes};
-ghost use Rattle.component_package.specs.Manifest.{Release, StoredRelease, IsRelease, IsStored, IsManifest, IsSlotManifest, SpellsRelease, Stores, release_of, stored_of, released, release_in, stored_in, manifest_fault, manifest_bytes, manifest_entry_bytes, manifest_entry_at, stored_bytes, placed_bytes, placed_at};
-ghost use Rattle.component_package.specs.ManifestSteps.{size_fault, fault_of_entry, is_place, place_fault, block_of};
-ghost use Rattle.component_package.specs.Reading.{first_fault, list_of};
+ghost use Rattle.component_package.specs.packages.Numbers.{u16_bytes, u32_at, u32_bytes};
+ghost use Rattle.component_package.specs.packages.Manifest.{Release, StoredRelease, IsRelease, IsStored, IsManifest, IsSlotManifest, SpellsRelease, Stores, release_of, stored_of, released, release_in, stored_in, manifest_fault, manifest_bytes, manifest_entry_bytes, manifest_entry_at, stored_bytes, placed_bytes, placed_at};
+ghost use Rattle.component_package.specs.declared.manifest.ManifestFault.TheVariants.{Short};
+ghost use Rattle.component_package.specs.packages.ManifestSteps.{size_fault, fault_of_entry, is_place, place_fault, block_of};
+ghost use Rattle.component_package.specs.packages.Reading.{first_fault, list_of};
 
 use crate::header::u16_in;
+use crate::limits::PACKAGE_BYTES;
 
 /// One component of a release.
 #[derive(Clone, Copy, Debug, PartialEq, Eq)]
@@ -58,7 +60,7 @@ pub enum ManifestFault {
 }
 
 impl ManifestFault {
-    ghost use Rattle.component_package.specs.Manifest.{number_of_manifest_fault};
+    ghost use Rattle.component_package.specs.packages.Manifest.{number_of_manifest_fault};
 
     /// The number of the fault, 1 to 4, as the line `bad manifest` says it.
     pub fn number(&self) -> u8
@@ -109,13 +111,23 @@ fn entry_in(bytes: &[u8], at: usize) -> Entry
     }
 }
 
+// So many bytes as a fault holds them: where they are 2^32 or more, the greatest number that it can hold.
+fn short(count: usize) -> ManifestFault
+    ensures { count < 2 ^ 32 → result ≡ Short count }
+{
+    if count > u32::MAX as usize {
+        return ManifestFault::Short(u32::MAX);
+    }
+    ManifestFault::Short(count as u32)
+}
+
 // What is wrong with the count, or with how many bytes there are.
 fn size_fault(bytes: &[u8]) -> Option<ManifestFault>
-    requires { length bytes.now < 2 ^ 32 }
-    ensures { result ≡ size_fault bytes.now }
+    ensures fault { length bytes.now < 2 ^ 32 → result ≡ size_fault bytes.now }
+    ensures none { is_none result ≡ is_none (size_fault bytes.now) }
 {
     if bytes.len() < 5 {
-        return Some(ManifestFault::Short(bytes.len() as u32));
+        return Some(short(bytes.len()));
     }
     let count = bytes[4];
     if count == 0 {
@@ -125,7 +137,7 @@ fn size_fault(bytes: &[u8]) -> Option<ManifestFault>
         return Some(ManifestFault::Count(count));
     }
     if bytes.len() != 5 + 38 * count as usize {
-        return Some(ManifestFault::Short(bytes.len() as u32));
+        return Some(short(bytes.len()));
     }
     None
 }
@@ -146,17 +158,17 @@ fn entry_fault(before: &[Entry], entry: &Entry) -> Option<ManifestFault>
     if entry.length < 32 {
         return Some(ManifestFault::Length(entry.length));
     }
-    if entry.length > 9984 {
+    if entry.length > PACKAGE_BYTES {
         return Some(ManifestFault::Length(entry.length));
     }
     None
 }
 
 /// Reads a manifest: release u32, count u8, and 38 bytes for each entry (component, version and length u16, digest), all
-/// little-endian. Or answers its first fault. The bytes are below 2^32, since a fault holds how many they are.
+/// little-endian. Or answers its first fault; of 2^32 bytes or more, `Short` holds the greatest number that it can.
 pub fn read_manifest(bytes: &[u8]) -> Result<Manifest, ManifestFault>
-    requires short { length bytes.now < 2 ^ 32 }
-    ensures fault { result_err result ≡ manifest_fault bytes.now }
+    ensures fault { length bytes.now < 2 ^ 32 → result_err result ≡ manifest_fault bytes.now }
+    ensures refused { is_err result ≡ is_some (manifest_fault bytes.now) }
     ensures release { IfOk result (λ m. release_of m ≡ release_in bytes.now) }
     ensures spells { IfOk result (λ m. SpellsRelease bytes.now (release_of m)) }
     ensures count { IfOk result (λ m. m.count ≤ 16) }

@@ -1,7 +1,7 @@
 //! Worked manifests, and each of their faults at its first and last place, alone and before the next in order.
 
 ghost use Rattle.std.specs.Prelude.{IfSome, IfOk};
-ghost use Rattle.component_package.specs.Manifest.{IsManifest};
+ghost use Rattle.component_package.specs.packages.Manifest.{IsManifest};
 
 use super::*;
 use std::alloc::{AllocError, Global};

@@ -2,10 +2,10 @@
 
 ghost use Rattle.std.specs.Prelude.{◌≡◌, ◌<◌, ◌≤◌, ◌+◌, ◌-◌, ◌++◌, length, replicate, IfOk, Some, slice_index, slice_range, slice_get};
 ghost use Rattle.std.specs.Result.{result_err};
-ghost use Rattle.component_package.specs.Component.{Component};
-ghost use Rattle.component_package.specs.Reading.{header_of, total_of, header_of_component, raw_export, export_of, exports_fault, raw_reloc, reloc_of, field_span_of, relocs_fault, component_of, package_fault};
-ghost use Rattle.component_package.specs.Grammar.{Spells};
-ghost use Rattle.component_package.specs.View.{IsRead};
+ghost use Rattle.component_package.specs.packages.Component.{Component};
+ghost use Rattle.component_package.specs.packages.Reading.{header_of, total_of, header_of_component, raw_export, export_of, exports_fault, raw_reloc, reloc_of, field_span_of, relocs_fault, component_of, package_fault};
+ghost use Rattle.component_package.specs.packages.Grammar.{Spells};
+ghost use Rattle.component_package.specs.packages.View.{IsRead};
 ghost use Rattle.component_package.specs.Laws.{spanned_field};
 
 use crate::check::{check_export, check_reloc, field_span, place, reloc_with};

@@ -1,7 +1,7 @@
 //! Worked packages, every fault at its first and last place, and the greatest package.
 
 ghost use Rattle.std.specs.Prelude.{◌≡◌, IfOk};
-ghost use Rattle.component_package.specs.Grammar.{IsComponent};
+ghost use Rattle.component_package.specs.packages.Grammar.{IsComponent};
 
 use super::*;
 use avr_reloc::RelocType;

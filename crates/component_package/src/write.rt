@@ -2,10 +2,10 @@
 
 ghost use Rattle.std.specs.Prelude.{◌≡◌, [], ◌∷◌, ◌++◌, length, None, IfOk, OnOk};
 ghost use Rattle.std.specs.List.{flat_map};
-ghost use Rattle.component_package.specs.Numbers.{u16_bytes};
-ghost use Rattle.component_package.specs.Component.{number_of_place, weak_mark, export_bytes, reloc_bytes, header_bytes, spelling};
-ghost use Rattle.component_package.specs.Reading.{package_fault, component_of};
-ghost use Rattle.component_package.specs.Grammar.{IsComponent, Spells};
+ghost use Rattle.component_package.specs.packages.Numbers.{u16_bytes};
+ghost use Rattle.component_package.specs.packages.Component.{number_of_place, weak_mark, export_bytes, reloc_bytes, header_bytes, spelling};
+ghost use Rattle.component_package.specs.packages.Reading.{package_fault, component_of};
+ghost use Rattle.component_package.specs.packages.Grammar.{IsComponent, Spells};
 
 use crate::list::NoMemory;
 use crate::part::{Export, Package, Place, Reloc};

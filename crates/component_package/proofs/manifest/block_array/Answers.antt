@@ -1,7 +1,7 @@
 use Rattle.std.proofs.Common.{◌≡◌, ℕ, [], Option, length, replicate, sym, ap, ◌∙◌, arith, rules}
 use Rattle.std.specs.Option.{option_map_or}
 use Rattle.component_package.specs.declared.manifest.Entry.{Entry}
-use Rattle.component_package.specs.Manifest.{Placed, placed_bytes, stored_of}
+use Rattle.component_package.specs.packages.Manifest.{Placed, placed_bytes, stored_of}
 use Rattle.component_package.proofs.StoredLemmas.{pair_at, length-pairs, element_past}
 use Rattle.component_package.proofs.manifest.block_array.Goals as goal
 

@@ -4,7 +4,7 @@ use Rattle.std.specs.List.{concat}
 use Rattle.std.proofs.lemmas.Bool.{false≢true}
 use Rattle.std.proofs.lemmas.List.{take_more, take_all, append-nil}
 use Rattle.std.proofs.lemmas.List.Folds.{concat-append}
-use Rattle.component_package.specs.Manifest.{stored_of, stored_bytes}
+use Rattle.component_package.specs.packages.Manifest.{stored_of, stored_bytes}
 use Rattle.component_package.proofs.StoredLemmas.{joined_slice, take_further, length-stored}
 use Rattle.component_package.proofs.manifest.has_pages.Goals as goal
 

@@ -3,9 +3,9 @@ use Rattle.std.specs.Prelude.{is_some}
 use Rattle.std.specs.List.{concat}
 use Rattle.std.proofs.lemmas.List.{take_more_set, length-set}
 use Rattle.component_package.specs.declared.manifest.Entry.{Entry}
-use Rattle.component_package.specs.Reading.{list_of}
-use Rattle.component_package.specs.Manifest.{Placed, placed_at}
-use Rattle.component_package.specs.ManifestSteps.{is_place, place_fault}
+use Rattle.component_package.specs.packages.Reading.{list_of}
+use Rattle.component_package.specs.packages.Manifest.{Placed, placed_at}
+use Rattle.component_package.specs.packages.ManifestSteps.{is_place, place_fault}
 use Rattle.component_package.proofs.First.{first_fault-at, first_fault-more}
 use Rattle.component_package.proofs.Lists.{list_of_more}
 use Rattle.component_package.proofs.StoredLemmas.{placed_in_page, placed_of, entry_at, slot_of, the_placed, first_page_byte}

@@ -1,8 +1,8 @@
 use Rattle.std.proofs.Common.{◌≡◌, None, length, take}
 use Rattle.std.specs.List.{concat}
-use Rattle.component_package.specs.Reading.{first_fault, list_of}
-use Rattle.component_package.specs.Manifest.{placed_at}
-use Rattle.component_package.specs.ManifestSteps.{place_fault}
+use Rattle.component_package.specs.packages.Reading.{first_fault, list_of}
+use Rattle.component_package.specs.packages.Manifest.{placed_at}
+use Rattle.component_package.specs.packages.ManifestSteps.{place_fault}
 use Rattle.component_package.proofs.manifest.places_in.Given as goal
 
 abbrev pub invariant-loop-i : goal.invariant-loop-i

@@ -1,6 +1,6 @@
 use Rattle.std.proofs.Common.{◌≡◌, None, length, take}
-use Rattle.component_package.specs.Reading.{first_fault, list_of}
-use Rattle.component_package.specs.Manifest.{manifest_entry, entry_fault}
+use Rattle.component_package.specs.packages.Reading.{first_fault, list_of}
+use Rattle.component_package.specs.packages.Manifest.{manifest_entry, entry_fault}
 use Rattle.component_package.proofs.manifest.read_manifest.Given as goal
 
 abbrev pub invariant-loop-i : goal.invariant-loop-i

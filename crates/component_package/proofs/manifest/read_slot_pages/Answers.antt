@@ -2,9 +2,9 @@ use Rattle.std.proofs.Common.{◌≡◌, ◌≤◌, None, [], get_or, sym, ap, �
 use Rattle.std.specs.Prelude.{is_some}
 use Rattle.std.specs.List.{concat}
 use Rattle.std.proofs.lemmas.Bool.{false≢true}
-use Rattle.component_package.specs.Reading.{first_fault}
-use Rattle.component_package.specs.Manifest.{StoredRelease, Stores, stored_of, stored_bytes}
-use Rattle.component_package.specs.ManifestSteps.{place_fault}
+use Rattle.component_package.specs.packages.Reading.{first_fault}
+use Rattle.component_package.specs.packages.Manifest.{StoredRelease, Stores, stored_of, stored_bytes}
+use Rattle.component_package.specs.packages.ManifestSteps.{place_fault}
 use Rattle.component_package.proofs.StoredLemmas.{is_read, stored_again, stored_few, stored_stands, first_page_byte}
 use Rattle.component_package.proofs.manifest.read_slot_pages.Goals as goal
 

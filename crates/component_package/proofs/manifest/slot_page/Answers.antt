@@ -2,8 +2,8 @@ use Rattle.std.proofs.Common.{◌≡◌, ◌≤◌, ◌<◌, ◌+◌, ◌-◌, �
 use Rattle.std.specs.List.{flat_map}
 use Rattle.std.proofs.lemmas.List.{take_at, drop-drop, length-take-le}
 use Rattle.component_package.specs.declared.manifest.Entry.{Entry}
-use Rattle.component_package.specs.Numbers.{u32_bytes}
-use Rattle.component_package.specs.Manifest.{Placed, StoredRelease, stored_bytes, stored_of, placed_bytes}
+use Rattle.component_package.specs.packages.Numbers.{u32_bytes}
+use Rattle.component_package.specs.packages.Manifest.{Placed, StoredRelease, stored_bytes, stored_of, placed_bytes}
 use Rattle.component_package.proofs.StoredLemmas.{length-pairs, front_page, padding, block_at, take_further}
 use Rattle.component_package.proofs.manifest.slot_page.Goals as goal
 

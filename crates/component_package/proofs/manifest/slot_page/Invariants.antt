@@ -1,5 +1,5 @@
 use Rattle.std.proofs.Common.{◌≡◌, ◌*◌, length, take, drop}
-use Rattle.component_package.specs.Manifest.{stored_of, stored_bytes}
+use Rattle.component_package.specs.packages.Manifest.{stored_of, stored_bytes}
 use Rattle.component_package.proofs.manifest.slot_page.Given as goal
 
 abbrev pub invariant-loop-j : goal.invariant-loop-j

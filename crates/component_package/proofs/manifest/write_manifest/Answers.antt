@@ -2,8 +2,8 @@ use Rattle.std.proofs.Common.{◌≡◌, ℕ, ◌+◌, ◌*◌, ◌≤◌, ◌<�
 use Rattle.std.specs.List.{flat_map, AllByRecursion}
 use Rattle.std.proofs.lemmas.List.{length-take-le, flat_map_more, take_more, take-take}
 use Rattle.component_package.specs.declared.manifest.Entry.{Entry}
-use Rattle.component_package.specs.Numbers.{u32_bytes}
-use Rattle.component_package.specs.Manifest.{manifest_entry_bytes, IsManifestEntry}
+use Rattle.component_package.specs.packages.Numbers.{u32_bytes}
+use Rattle.component_package.specs.packages.Manifest.{manifest_entry_bytes, IsManifestEntry}
 use Rattle.component_package.proofs.ManifestLemmas.{put_next, length-among, entry_wide, all_front, front_at}
 use Rattle.component_package.proofs.manifest.write_manifest.Goals as goal
 

@@ -1,7 +1,7 @@
 use Rattle.std.proofs.Common.{◌≡◌, ◌+◌, ◌*◌, [], ◌∷◌, ◌++◌, take, drop}
 use Rattle.std.specs.List.{flat_map}
-use Rattle.component_package.specs.Numbers.{u32_bytes}
-use Rattle.component_package.specs.Manifest.{manifest_entry_bytes}
+use Rattle.component_package.specs.packages.Numbers.{u32_bytes}
+use Rattle.component_package.specs.packages.Manifest.{manifest_entry_bytes}
 use Rattle.component_package.proofs.manifest.write_manifest.Given as goal
 
 abbrev pub invariant-loop-i : goal.invariant-loop-i

@@ -1,5 +1,5 @@
 use Rattle.std.proofs.Common.{◌≡◌, None}
-use Rattle.component_package.specs.Reading.{export_fault, symbol_before, first_fault}
+use Rattle.component_package.specs.packages.Reading.{export_fault, symbol_before, first_fault}
 use Rattle.component_package.proofs.read.check_exports.Given as goal
 
 -- no export so far has a fault, and the last one's symbol is kept

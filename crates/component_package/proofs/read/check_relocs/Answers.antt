@@ -1,7 +1,7 @@
 use Rattle.std.proofs.Common.{◌≡◌, ◌<◌, None, Ok, Err, sym, ap, subst, ◌∙◌, arith}
 use Rattle.std.proofs.lemmas.Result.{err_from_is_err_and}
 use Rattle.component_package.specs.declared.part.Header.{Header}
-use Rattle.component_package.specs.Reading.{header_of, reloc_fault, first_fault}
+use Rattle.component_package.specs.packages.Reading.{header_of, reloc_fault, first_fault}
 use Rattle.component_package.proofs.First.{first_fault-at, first_fault-more}
 use Rattle.component_package.proofs.Steps.{reloc_fault_is, reloc_after}
 use Rattle.component_package.proofs.read.check_relocs.Goals as goal

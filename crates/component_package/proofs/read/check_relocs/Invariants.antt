@@ -1,5 +1,5 @@
 use Rattle.std.proofs.Common.{◌≡◌, None}
-use Rattle.component_package.specs.Reading.{reloc_fault, reloc_before, first_fault}
+use Rattle.component_package.specs.packages.Reading.{reloc_fault, reloc_before, first_fault}
 use Rattle.component_package.proofs.read.check_relocs.Given as goal
 
 -- no relocation so far has a fault, and the last one is kept

@@ -1,6 +1,6 @@
 use Rattle.std.proofs.Common.{◌≡◌, ◌++◌, take}
 use Rattle.std.specs.List.{flat_map}
-use Rattle.component_package.specs.Component.{export_bytes}
+use Rattle.component_package.specs.packages.Component.{export_bytes}
 use Rattle.component_package.proofs.write.push_exports.Given as goal
 
 abbrev pub invariant-loop-e : goal.invariant-loop-e

@@ -1,6 +1,6 @@
 use Rattle.std.proofs.Common.{◌≡◌, ◌++◌, take}
 use Rattle.std.specs.List.{flat_map}
-use Rattle.component_package.specs.Component.{reloc_bytes}
+use Rattle.component_package.specs.packages.Component.{reloc_bytes}
 use Rattle.component_package.proofs.write.push_relocs.Given as goal
 
 abbrev pub invariant-loop-r : goal.invariant-loop-r

@@ -1,5 +1,5 @@
 use Rattle.std.proofs.Common.{◌≡◌, append_assoc, rules}
-use Rattle.component_package.specs.Component.{spelling}
+use Rattle.component_package.specs.packages.Component.{spelling}
 use Rattle.component_package.proofs.ReadAgain.{spelling_faultless, spelling_said}
 use Rattle.component_package.proofs.write.write_package.Goals as goal
 

@@ -1,5 +1,5 @@
 use Rattle.std.proofs.Common.{◌≡◌, ℕ, ◌<◌, length, arith}
-use Rattle.component_package.specs.Reading.{header_of, export_of, raw_export}
+use Rattle.component_package.specs.packages.Reading.{header_of, export_of, raw_export}
 use Rattle.component_package.proofs.Lists.{slice_get-list_of, length-list_of}
 use Rattle.component_package.proofs.read.PackageView.export.Goals as goal
 

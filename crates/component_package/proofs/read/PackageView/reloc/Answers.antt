@@ -1,5 +1,5 @@
 use Rattle.std.proofs.Common.{◌≡◌, ℕ, ◌<◌, length, arith}
-use Rattle.component_package.specs.Reading.{header_of, reloc_of, raw_reloc}
+use Rattle.component_package.specs.packages.Reading.{header_of, reloc_of, raw_reloc}
 use Rattle.component_package.proofs.Lists.{slice_get-list_of, length-list_of}
 use Rattle.component_package.proofs.read.PackageView.reloc.Goals as goal
 

@@ -1,0 +1,6 @@
+pub mod Samples
+pub mod MachineRows
+pub mod LinkRows
+pub mod SoundRows
+pub mod LineRows
+pub mod LinkedRow
