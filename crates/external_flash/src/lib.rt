@@ -4,16 +4,19 @@
 //! Pages are programmed only where that changes something, and a run of bytes is read over the ends of pages.
 #![tactic(auto)]
 
-ghost use Rattle.std.specs.Prelude.{◌≡◌, ◌≤◌, ◌<◌, ◌+◌, ◌*◌, ◌↔◌, ℕ, List, length, take, drop, Some, OnOk, OnErr, IfOk, IsTrue, if◌then◌else◌};
-ghost use Rattle.flash_pages.specs.State.{State, Place, Prog, Ext, page_at, with_page};
-ghost use Rattle.flash_pages.specs.Board.{View, Reads, Programs, Rose};
+ghost use Rattle.std.specs.Prelude.{◌≡◌, ◌<◌, ◌+◌, ◌↔◌, Some, OnOk, IfOk, IsTrue, if◌then◌else◌};
+ghost use Rattle.flash_pages.specs.State.{Ext, with_page};
+ghost use Rattle.flash_pages.specs.Board.{View, Told, Reads, Programs, FlashFaults};
 ghost use Rattle.external_flash.specs.Gates.{gate_page, gate_place, is_open, IsShut, IsOpen, opened, closed};
-ghost use Rattle.external_flash.specs.Areas.{Differs, bytes_from};
+ghost use Rattle.external_flash.specs.Areas.{Differs};
 
-use flash_pages::{Board, Failed};
-
+mod reader;
 #[cfg(test)]
 mod tests;
+
+use flash_pages::page::is_same;
+use flash_pages::{Board, Failed};
+pub use reader::{PageReader, read_bytes};
 
 /// The gates. The first stands on page 0 of the external flash, and each other on the page after the one before it.
 #[derive(Clone, Copy, Debug, PartialEq, Eq)]
@@ -54,19 +57,12 @@ fn page_of(gate: Gate) -> u16
     gate as u16
 }
 
-// Whether two pages hold the same bytes.
-fn is_same(a: &[u8; 256], b: &[u8; 256]) -> bool
-    ensures { IsTrue result ↔ (a.now ≡ b.now) }
-{
-    a == b
-}
-
 /// Whether the gate is open: whether the first byte of its page is 0xA5. `Failed` comes only where flash faults rose.
 pub fn gate_is_open<B: Board>(board: &mut B, gate: Gate) -> Result<bool, Failed>
     ensures reads { Reads (B.view board.old) (B.view board.new) }
-    ensures answer { IfOk result (λ answer. (s : State) → (B.view board.old).state ≡ Some s → answer ≡ is_open gate s) }
-    ensures no_fault { OnOk result ((B.view board.new).flash_faults ≡ (B.view board.old).flash_faults) }
-    ensures failed { OnErr result (Rose (B.view board.old).flash_faults (B.view board.new).flash_faults) }
+    ensures answer { IfOk result (λ answer. Told (B.view board.old) (λ s.
+        answer ≡ is_open gate s)) }
+    ensures faults { FlashFaults result (B.view board.old) (B.view board.new) }
 {
     let mut page = [0; 256];
     board.ext_read(page_of(gate), &mut page)?;
@@ -75,12 +71,14 @@ pub fn gate_is_open<B: Board>(board: &mut B, gate: Gate) -> Result<bool, Failed>
 
 /// Opens the gate: programs its page with 0xA5 and 255 zeros where the gate isn't open. `Failed` comes only where flash faults rose.
 pub fn open_gate<B: Board>(board: &mut B, gate: Gate) -> Result<(), Failed>
-    ensures ok { OnOk result ((s : State) → (B.view board.old).state ≡ Some s → (B.view board.new).state ≡ Some (opened gate s)) }
-    ensures programs { Programs (IsShut gate) (gate_place gate) (B.view board.old) (B.view board.new) }
-    ensures count { OnOk result ((s : State) → (B.view board.old).state ≡ Some s →
-        (B.view board.new).all_programs ≡ (B.view board.old).all_programs + (if is_open gate s then 0 else 1)) }
-    ensures no_fault { OnOk result ((B.view board.new).flash_faults ≡ (B.view board.old).flash_faults) }
-    ensures failed { OnErr result (Rose (B.view board.old).flash_faults (B.view board.new).flash_faults) }
+    ensures ok { OnOk result (Told (B.view board.old) (λ s.
+        (B.view board.new).state ≡ Some (opened gate s))) }
+    ensures programs { Programs (IsShut gate) (gate_place gate)
+        (B.view board.old) (B.view board.new) }
+    ensures count { OnOk result (Told (B.view board.old) (λ s.
+        (B.view board.new).all_programs
+        ≡ (B.view board.old).all_programs + (if is_open gate s then 0 else 1))) }
+    ensures faults { FlashFaults result (B.view board.old) (B.view board.new) }
 {
     if !gate_is_open(board, gate)? {
         let mut page = [0; 256];
@@ -92,58 +90,17 @@ pub fn open_gate<B: Board>(board: &mut B, gate: Gate) -> Result<(), Failed>
 
 /// Closes the gate: programs its page with 256 zeros where the gate is open. `Failed` comes only where flash faults rose.
 pub fn close_gate<B: Board>(board: &mut B, gate: Gate) -> Result<(), Failed>
-    ensures ok { OnOk result ((s : State) → (B.view board.old).state ≡ Some s → (B.view board.new).state ≡ Some (closed gate s)) }
-    ensures programs { Programs (IsOpen gate) (gate_place gate) (B.view board.old) (B.view board.new) }
-    ensures count { OnOk result ((s : State) → (B.view board.old).state ≡ Some s →
-        (B.view board.new).all_programs ≡ (B.view board.old).all_programs + (if is_open gate s then 1 else 0)) }
-    ensures no_fault { OnOk result ((B.view board.new).flash_faults ≡ (B.view board.old).flash_faults) }
-    ensures failed { OnErr result (Rose (B.view board.old).flash_faults (B.view board.new).flash_faults) }
+    ensures ok { OnOk result (Told (B.view board.old) (λ s.
+        (B.view board.new).state ≡ Some (closed gate s))) }
+    ensures programs { Programs (IsOpen gate) (gate_place gate)
+        (B.view board.old) (B.view board.new) }
+    ensures count { OnOk result (Told (B.view board.old) (λ s.
+        (B.view board.new).all_programs
+        ≡ (B.view board.old).all_programs + (if is_open gate s then 1 else 0))) }
+    ensures faults { FlashFaults result (B.view board.old) (B.view board.new) }
 {
     if gate_is_open(board, gate)? {
         board.ext_program(page_of(gate), &[0; 256])?;
-    }
-    Ok(())
-}
-
-// Reads bytes of one page, from `at` on.
-fn read_part<B: Board>(board: &mut B, page: u16, at: usize, into: &mut [u8]) -> Result<(), Failed>
-    requires page { page < 2048 }
-    requires within { at + length into.old ≤ 256 }
-    ensures ok { OnOk result ((s : State) → (B.view board.old).state ≡ Some s → into.new ≡ take (length into.old) (drop at (page_at s (Ext page)))) }
-    ensures reads { Reads (B.view board.old) (B.view board.new) }
-    ensures no_fault { OnOk result ((B.view board.new).flash_faults ≡ (B.view board.old).flash_faults) }
-    ensures failed { OnErr result (Rose (B.view board.old).flash_faults (B.view board.new).flash_faults) }
-{
-    let mut there = [0; 256];
-    board.ext_read(page, &mut there)?;
-    into.copy_from_slice(&there[at..at + into.len()]);
-    Ok(())
-}
-
-/// Reads bytes of the pages from `first` on as one run, from byte `from` of that run on. With `Failed` the buffer holds any bytes;
-/// it comes only where flash faults rose.
-pub fn read_bytes<B: Board>(
-    board: &mut B,
-    first: u16,
-    from: u32,
-    into: &mut [u8],
-) -> Result<(), Failed>
-    requires short { length into.old ≤ 256 }
-    requires within { 256 * first + from + length into.old ≤ 256 * 2048 }
-    ensures ok { OnOk result ((s : State) → (B.view board.old).state ≡ Some s → into.new ≡ take (length into.old) (drop from (bytes_from first s))) }
-    ensures reads { Reads (B.view board.old) (B.view board.new) }
-    ensures no_fault { OnOk result ((B.view board.new).flash_faults ≡ (B.view board.old).flash_faults) }
-    ensures failed { OnErr result (Rose (B.view board.old).flash_faults (B.view board.new).flash_faults) }
-{
-    if into.is_empty() {
-        return Ok(());
-    }
-    let page = first + (from / 256) as u16;
-    let at = (from % 256) as usize;
-    let here = into.len().min(256 - at);
-    read_part(board, page, at, &mut into[..here])?;
-    if here < into.len() {
-        read_part(board, page + 1, 0, &mut into[here..])?;
     }
     Ok(())
 }
@@ -155,13 +112,16 @@ pub fn program_if_different<B: Board>(
     bytes: &[u8; 256],
 ) -> Result<bool, Failed>
     requires { page < 2048 }
-    ensures ok { OnOk result ((s : State) → (B.view board.old).state ≡ Some s → (B.view board.new).state ≡ Some (with_page s (Ext page) bytes.now)) }
-    ensures programs { Programs (Differs (Ext page) bytes.now) (Ext page) (B.view board.old) (B.view board.new) }
-    ensures answer { IfOk result (λ did. (s : State) → (B.view board.old).state ≡ Some s → IsTrue did ↔ Differs (Ext page) bytes.now s) }
-    ensures count { IfOk result (λ did. (s : State) → (B.view board.old).state ≡ Some s →
-        (B.view board.new).all_programs ≡ (B.view board.old).all_programs + (if did then 1 else 0)) }
-    ensures no_fault { OnOk result ((B.view board.new).flash_faults ≡ (B.view board.old).flash_faults) }
-    ensures failed { OnErr result (Rose (B.view board.old).flash_faults (B.view board.new).flash_faults) }
+    ensures ok { OnOk result (Told (B.view board.old) (λ s.
+        (B.view board.new).state ≡ Some (with_page s (Ext page) bytes.now))) }
+    ensures programs { Programs (Differs (Ext page) bytes.now) (Ext page)
+        (B.view board.old) (B.view board.new) }
+    ensures answer { IfOk result (λ did. Told (B.view board.old) (λ s.
+        IsTrue did ↔ Differs (Ext page) bytes.now s)) }
+    ensures count { IfOk result (λ did. Told (B.view board.old) (λ s.
+        (B.view board.new).all_programs
+        ≡ (B.view board.old).all_programs + (if did then 1 else 0))) }
+    ensures faults { FlashFaults result (B.view board.old) (B.view board.new) }
 {
     let mut there = [0; 256];
     board.ext_read(page, &mut there)?;

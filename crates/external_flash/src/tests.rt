@@ -1,7 +1,9 @@
 //! What no clause says: on which page each gate stands, in bytes, and that calls succeed on a board that fails none.
 ghost use Rattle.std.specs.Prelude.{◌<◌};
 
-use crate::{Gate, close_gate, gate_is_open, open_gate, program_if_different, read_bytes};
+use crate::{
+    Gate, PageReader, close_gate, gate_is_open, open_gate, program_if_different, read_bytes,
+};
 use flash_pages::{BoardPlan, MemoryBoard};
 use std::alloc::Global;
 use std::test::Fail;
@@ -97,6 +99,26 @@ fn bytes_run_over_the_ends_of_pages(rt: HostRuntime) -> Result<(), Fail> {
             assert_eq!(rt; got, Some(byte_at(start + i)), "{first} {from} {i}");
         }
     }
+    Ok(())
+}
+
+#[test]
+fn nothing_is_read_anywhere(rt: HostRuntime) -> Result<(), Fail> {
+    let mut board = board(rt.alloc(), 1)?;
+    assert!(rt; read_bytes(&mut board, 65_535, 4_294_967_295, &mut []).is_ok());
+    Ok(())
+}
+
+#[test]
+fn a_reader_reads_each_page_once(rt: HostRuntime) -> Result<(), Fail> {
+    let mut board = board(rt.alloc(), 3)?;
+    let mut reader = PageReader::new();
+    let mut record = [0; 8];
+    for i in 0..64 {
+        assert!(rt; reader.read(&mut board, 9, 8 * i, &mut record).is_ok());
+    }
+    assert!(rt; reader.read(&mut board, 9, 512, &mut record).is_err());
+    assert!(rt; reader.read(&mut board, 9, 512, &mut record).is_ok());
     Ok(())
 }
 

@@ -1,5 +1,6 @@
 -- One more change of a board that keeps its changes.
 use Rattle.std.proofs.Common.{◌≡◌, ◌≢◌, ◌⊎◌, inl, inr, ⊎_elim, ℕ, ◌≤◌, true, false, List, [], ◌∷◌, ◌++◌, Some, Result, Ok, Err, OnOk, OnErr, is_err, length, refl, sym, ◌∙◌, ap, subst, arith, get_or, take, reverse}
+use Rattle.std.proofs.Math.Nat.{lt_irrefl}
 use Rattle.std.proofs.lemmas.Bool.Decides.{nat_tests}
 use Rattle.std.proofs.lemmas.Option.{same_Some}
 use Rattle.std.proofs.lemmas.List.{set-set, set-get_or, reverse-append, take_at, drop_at, take_all, append-nil}
@@ -52,7 +53,9 @@ module _ (s : State) (sizes : Forms s) (left : List ℕ) (log : List Change) (fl
     cut = record { later = omega arith; nothing_else = λ x y t is le was. inl was; keeps = λ x t le was. was };
     others = λ x other is apart. refl;
     at_most = λ x is. (omega arith, omega arith);
+    no_less = λ x is. (omega arith, omega arith);
     none = λ x is free. (refl, refl);
+    spoils = λ x y t is le counted spoilt. absurd (lt_irrefl (count_changes (is_program_of place) log) counted);
     uses = record { untold = λ none. none; left = refl; line = refl; flash = more };
   }
 
@@ -80,7 +83,11 @@ module _ (s : State) (sizes : Forms s) (left : List ℕ) (log : List Change) (fl
       cut = elapses new_sizes new_flash;
       others = λ x other is apart. rw (is_program_of-other other place s apart) (omega arith);
       at_most = λ x is. (rw (is_program_of-held place s) (omega arith), rw (is_program-held place s) (omega arith));
+      no_less = λ x is. (rw (is_program_of-held place s) (omega arith), rw (is_program-held place s) (omega arith));
       none = λ x is free. absurd (free tt);
+      spoils = λ x y t is le counted spoilt.
+          let was : undo (with_page s place bytes) (held place s) ≡ x = undo-held place s bytes ∙ same_Some s x is in
+          inr (le, inl (held_inside place s (undo (with_page s place bytes) (held place s)) (with_page s place bytes) y (subst (λ z. Spoils place z y) (sym was) spoilt)));
       uses = record { untold = λ none. absurd (cc none); left = refl; line = refl; flash = more };
     }
 
@@ -89,10 +96,6 @@ module _ (s : State) (sizes : Forms s) (left : List ℕ) (log : List Change) (fl
       state = λ x is. ap (λ z. Some (with_page z place bytes)) (same_Some s x is);
       programs = λ x is. rw (is_program_of-held place s) (omega arith);
       all_programs = λ x is. rw (is_program-held place s) (omega arith);
-      flash = refl;
-      spoils = λ x y t is le spoilt.
-          let was : undo (with_page s place bytes) (held place s) ≡ x = undo-held place s bytes ∙ same_Some s x is in
-          inr (le, inl (held_inside place s (undo (with_page s place bytes) (held place s)) (with_page s place bytes) y (subst (λ z. Spoils place z y) (sym was) spoilt)));
     }
 
 -- the same, whether the change was made or there was no room for it

@@ -18,13 +18,15 @@ undo s (SentSoFar count) = record s { sent = take count s.sent }
 abbrev pub Inside : Change → State → State → State → Type 0
 Inside (ProgHeld page bytes) before after x = Spoils (Prog page) before x
 Inside (ExtHeld page bytes) before after x = Spoils (Ext page) before x
-Inside (SentSoFar count) before after x = (k : ℕ) × (x ≡ with_sent before (take k (drop count after.sent)))
+Inside (SentSoFar count) before after x =
+    (k : ℕ) × (x ≡ with_sent before (take k (drop count after.sent)))
 
 -- what a cut may have left since there were t changes, the newest of them first
 abbrev pub LeftSince : State → List Change → ℕ → State → Type 0
 LeftSince s [] t x = x ≡ s
 LeftSince s (change ∷ older) t x =
-    (x ≡ s) ⊎ ((t ≤ length older) × (Inside change (undo s change) s x ⊎ LeftSince (undo s change) older t x))
+    (x ≡ s) ⊎ ((t ≤ length older)
+    × (Inside change (undo s change) s x ⊎ LeftSince (undo s change) older t x))
 
 -- whether a change is a program
 abbrev pub is_program : Change → Bool
@@ -70,6 +72,7 @@ logged_view s sizes left log flash_faults line_faults = record {
   flash_faults = flash_faults;
   line_faults = line_faults;
   sizes = sizes;
-  present = λ x t is le. subst (λ y. LeftSince s log t y) (same_Some s x is) (left_at_once s log t);
+  present = λ x t is le.
+      subst (λ y. LeftSince s log t y) (same_Some s x is) (left_at_once s log t);
   only_now = λ x y is left. only_now s y log left ∙ same_Some s x is;
 }

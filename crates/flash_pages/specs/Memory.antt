@@ -14,11 +14,19 @@ memory_state b = record { prog = b.prog.items; ext = b.ext.items; sent = b.sent.
 
 -- that state has its sizes
 pub memory_sizes : (b : MemoryBoard) → Forms (memory_state b)
-memory_sizes b x is = subst IsState (same_Some (memory_state b) x is) (record { prog = b.prog_size; ext = b.ext_size; prog_pages = b.prog_pages; ext_pages = b.ext_pages; sent = b.sent_bytes })
+memory_sizes b x is = subst IsState (same_Some (memory_state b) x is) (record {
+  prog = b.prog_size;
+  ext = b.ext_size;
+  prog_pages = b.prog_pages;
+  ext_pages = b.ext_pages;
+  sent = b.sent_bytes;
+})
 
 -- what a board in memory shows: its state, the bytes of its input that were not taken, and the past that its changes tell
 abbrev pub memory_view : MemoryBoard → View
-memory_view b = logged_view (memory_state b) (memory_sizes b) (drop b.taken b.input.items) (reverse b.log.changes.items) b.flash_faults b.line_faults
+memory_view b =
+    logged_view (memory_state b) (memory_sizes b) (drop b.taken b.input.items)
+    (reverse b.log.changes.items) b.flash_faults b.line_faults
 
 -- what is to go wrong on a board in memory
 abbrev pub plan_of : MemoryBoard → BoardPlan

@@ -4,7 +4,7 @@
 //! of bytes sent and of bytes left holds where the board tells them; all else holds on every board.
 ghost use Rattle.std.specs.Prelude.{◌≡◌, ◌<◌, ℕ, List, length, Some, OnOk, OnErr, IfOk};
 ghost use Rattle.flash_pages.specs.State.{State, Place, Prog, Ext, page_at, SendsPart, always};
-ghost use Rattle.flash_pages.specs.Board.{View, Reads, IsProgrammed, Programs, UsesLine, Receives, Sends, Rose};
+ghost use Rattle.flash_pages.specs.Board.{View, Told, Reads, IsProgrammed, Programs, UsesLine, Receives, Sends, FlashFaults, LineFaults};
 
 /// A call on an outside object failed, and that object's count of faults rose.
 #[derive(Clone, Copy, Debug, PartialEq, Eq)]
@@ -20,50 +20,52 @@ pub trait Board {
     /// Reads a page of external flash, below 2,048. It changes nothing; with `Failed` the buffer holds any bytes.
     fn ext_read(&mut self, page: u16, into: &mut [u8; 256]) -> Result<(), Failed>
         requires { page < 2048 }
-        ensures page { OnOk result ((s : State) → (view self.old).state ≡ Some s → into.new ≡ page_at s (Ext page)) }
+        ensures page { OnOk result (Told (view self.old) (λ s. into.new ≡ page_at s (Ext page))) }
         ensures size { length into.new ≡ 256 }
         ensures reads { Reads (view self.old) (view self.new) }
-        ensures ok { OnOk result ((view self.new).flash_faults ≡ (view self.old).flash_faults) }
-        ensures failed { OnErr result (Rose (view self.old).flash_faults (view self.new).flash_faults) };
+        ensures faults { FlashFaults result (view self.old) (view self.new) };
 
     /// Programs a page of external flash, below 2,048. A cut in the call leaves the page as it was, or with any 256 bytes, or programmed,
     /// and all else as it was. `Failed` too may leave the page with any bytes, and counts as one program at most.
     fn ext_program(&mut self, page: u16, from: &[u8; 256]) -> Result<(), Failed>
         requires { page < 2048 }
-        ensures ok { OnOk result (IsProgrammed (Ext page) from.now (view self.old) (view self.new)) }
-        ensures failed { OnErr result (Rose (view self.old).flash_faults (view self.new).flash_faults) }
-        ensures programs { Programs always (Ext page) (view self.old) (view self.new) };
+        ensures ok { OnOk result (
+            IsProgrammed (Ext page) from.now (view self.old) (view self.new)) }
+        ensures programs { Programs always (Ext page) (view self.old) (view self.new) }
+        ensures faults { FlashFaults result (view self.old) (view self.new) };
 
     /// Reads a page of program flash, below 480, as `ext_read` does.
     fn prog_read(&mut self, page: u16, into: &mut [u8; 256]) -> Result<(), Failed>
         requires { page < 480 }
-        ensures page { OnOk result ((s : State) → (view self.old).state ≡ Some s → into.new ≡ page_at s (Prog page)) }
+        ensures page { OnOk result (Told (view self.old) (λ s. into.new ≡ page_at s (Prog page))) }
         ensures size { length into.new ≡ 256 }
         ensures reads { Reads (view self.old) (view self.new) }
-        ensures ok { OnOk result ((view self.new).flash_faults ≡ (view self.old).flash_faults) }
-        ensures failed { OnErr result (Rose (view self.old).flash_faults (view self.new).flash_faults) };
+        ensures faults { FlashFaults result (view self.old) (view self.new) };
 
     /// Programs a page of program flash, below 480, as `ext_program` does.
     fn prog_program(&mut self, page: u16, from: &[u8; 256]) -> Result<(), Failed>
         requires { page < 480 }
-        ensures ok { OnOk result (IsProgrammed (Prog page) from.now (view self.old) (view self.new)) }
-        ensures failed { OnErr result (Rose (view self.old).flash_faults (view self.new).flash_faults) }
-        ensures programs { Programs always (Prog page) (view self.old) (view self.new) };
+        ensures ok { OnOk result (
+            IsProgrammed (Prog page) from.now (view self.old) (view self.new)) }
+        ensures programs { Programs always (Prog page) (view self.old) (view self.new) }
+        ensures faults { FlashFaults result (view self.old) (view self.new) };
 
     /// Receives the next bytes and says how many. It is 0 for a buffer that isn't empty exactly where nothing is left. `Failed` takes nothing.
     fn receive(&mut self, into: &mut [u8]) -> Result<usize, Failed>
-        ensures ok { IfOk result (λ count. Receives count into.old into.new (view self.old) (view self.new)) }
-        ensures failed { OnErr result (Rose (view self.old).line_faults (view self.new).line_faults) }
+        ensures ok { IfOk result (λ count.
+            Receives count into.old into.new (view self.old) (view self.new)) }
         ensures left { OnErr result ((view self.new).left ≡ (view self.old).left) }
         ensures line { UsesLine (λ s x. x ≡ s) (view self.old) (view self.new) }
-        ensures state { (view self.new).state ≡ (view self.old).state };
+        ensures state { (view self.new).state ≡ (view self.old).state }
+        ensures faults { LineFaults result (view self.old) (view self.new) };
 
     /// Sends bytes from the front of the piece and says how many, at least one where the piece isn't empty. A cut in the call, and `Failed`,
     /// leave some first part of the piece sent.
     fn send(&mut self, from: &[u8]) -> Result<usize, Failed>
         ensures ok { IfOk result (λ count. Sends count from.now (view self.old) (view self.new)) }
-        ensures failed { OnErr result (Rose (view self.old).line_faults (view self.new).line_faults) }
-        ensures part { OnErr result ((s : State) → (view self.old).state ≡ Some s → (x : State) × ((view self.new).state ≡ Some x) × SendsPart from.now s x) }
+        ensures part { OnErr result (Told (view self.old) (λ s.
+            (x : State) × ((view self.new).state ≡ Some x) × SendsPart from.now s x)) }
         ensures line { UsesLine (SendsPart from.now) (view self.old) (view self.new) }
-        ensures left { (view self.new).left ≡ (view self.old).left };
+        ensures left { (view self.new).left ≡ (view self.old).left }
+        ensures faults { LineFaults result (view self.old) (view self.new) };
 }

@@ -1,11 +1,13 @@
 //! A board in memory, whose calls fail and stop as a plan says.
 //!
 //! It keeps what each change took the place of. So what a cut may have left at any moment is told by undoing the changes, the newest first.
-ghost use Rattle.std.specs.Prelude.{◌≡◌, ◌↔◌, ◌≤◌, ◌<◌, ◌+◌, ◌++◌, [], ◌∷◌, length, slice_set, replicate, OnOk, OnErr, IfOk, IsTrue, IsSomeAnd, All};
-ghost use Rattle.flash_pages.specs.State.{AreBytes, IsPage, Prog, Ext, page_at};
+ghost use Rattle.std.specs.Prelude.{◌≡◌, ◌≤◌, ◌<◌, ◌+◌, ◌++◌, [], ◌∷◌, nat_le, is_err, false, length, slice_set, replicate, vec_capacity, Some, OnOk, OnErr, IfOk, IsTrue, IsSomeAnd, All};
+ghost use Rattle.flash_pages.specs.State.{State, AreBytes, IsPage, Prog, Ext, page_at, always, SendsPart};
+ghost use Rattle.flash_pages.specs.Board.{View, Told, Reads, IsProgrammed, Programs, UsesLine, Receives, Sends, FlashFaults, LineFaults};
 ghost use Rattle.flash_pages.specs.Log.{is_program};
 
 use crate::log::{Change, ChangeLog};
+use crate::plan::{fails, is_next, written};
 use crate::{Board, Failed, raised};
 use std::alloc::{AllocError, Global};
 
@@ -38,6 +40,9 @@ pub struct BoardPlan {
 }
 
 /// A board in memory, which tells its state and the bytes left to receive.
+///
+/// Each of its calls of `Board` says in the clause `plan` when it fails and what it does by the board's plan.
+/// Where there is no room for a program, the plan's stop doesn't come in it.
 #[derive(Drop)]
 pub struct MemoryBoard {
     prog: Vec<[u8; 256]>,
@@ -59,6 +64,9 @@ pub struct MemoryBoard {
     ghost sent_bytes: { AreBytes sent.items },
     ghost taken_within: { taken ≤ length input.items },
     ghost sent_within: { length sent.items ≤ sent_room },
+    ghost sent_capacity: { sent_room ≤ vec_capacity sent },
+    ghost sends_within: { log.sends ≤ length sent.items },
+    ghost send_room: { log.send_room ≡ sent_room },
 }
 
 // So many pages of zeros.
@@ -75,6 +83,7 @@ fn zero_pages(alloc: Global, count: usize) -> Result<Vec<[u8; 256]>, AllocError>
 
 impl MemoryBoard {
     ghost use Rattle.flash_pages.specs.Memory.{memory_view, zeros, IsFresh, unsent, plan_of, program_room, sent_room};
+    ghost use Rattle.flash_pages.specs.Plan.{HasBegun};
 
     /// A board whose pages hold zeros and that has sent nothing. It takes room for `programs` programs of pages and for
     /// `sent` sent bytes here, so that no call of `Board` takes memory. `NoMemory` is want of memory alone.
@@ -86,8 +95,10 @@ impl MemoryBoard {
         sent: u32,
     ) -> Result<MemoryBoard, NoMemory>
         ensures fresh { IfOk result (λ board. IsFresh zeros input.now (memory_view board)) }
+        ensures begun { IfOk result HasBegun }
         ensures plan { IfOk result (λ board. plan_of board ≡ plan) }
-        ensures rooms { IfOk result (λ board. (program_room board ≡ programs) × (sent_room board ≡ sent)) }
+        ensures rooms { IfOk result (λ board.
+            (program_room board ≡ programs) × (sent_room board ≡ sent)) }
     {
         Ok(MemoryBoard {
             prog: zero_pages(alloc, 480)?,
@@ -113,9 +124,12 @@ impl MemoryBoard {
         input: &[u8],
         plan: BoardPlan,
     ) -> Result<MemoryBoard, NoMemory>
-        ensures fresh { IfOk result (λ board. IsSomeAnd (memory_view self).state (λ s. IsFresh (unsent s) input.now (memory_view board))) }
+        ensures fresh { IfOk result (λ board. IsSomeAnd (memory_view self).state (λ s.
+            IsFresh (unsent s) input.now (memory_view board))) }
+        ensures begun { IfOk result HasBegun }
         ensures plan { IfOk result (λ board. plan_of board ≡ plan) }
-        ensures rooms { IfOk result (λ board. (program_room board ≡ program_room self) × (sent_room board ≡ sent_room self)) }
+        ensures rooms { IfOk result (λ board.
+            (program_room board ≡ program_room self) × (sent_room board ≡ sent_room self)) }
     {
         let MemoryBoard {
             prog,
@@ -146,7 +160,8 @@ impl MemoryBoard {
     /// This page of program flash.
     pub fn prog_page(&self, page: u16) -> &[u8; 256]
         requires { page < 480 }
-        ensures { IsSomeAnd (memory_view self.now).state (λ s. result.now ≡ page_at s (Prog page)) }
+        ensures { IsSomeAnd (memory_view self.now).state (λ s.
+            result.now ≡ page_at s (Prog page)) }
     {
         &self.prog[page as usize]
     }
@@ -154,7 +169,8 @@ impl MemoryBoard {
     /// This page of external flash.
     pub fn ext_page(&self, page: u16) -> &[u8; 256]
         requires { page < 2048 }
-        ensures { IsSomeAnd (memory_view self.now).state (λ s. result.now ≡ page_at s (Ext page)) }
+        ensures { IsSomeAnd (memory_view self.now).state (λ s.
+            result.now ≡ page_at s (Ext page)) }
     {
         &self.ext[page as usize]
     }
@@ -174,25 +190,6 @@ impl MemoryBoard {
     }
 }
 
-// Counts a call, and says whether it is one that is to fail.
-fn fails(plan: &BoardPlan, calls: &mut u64, stopped: bool) -> bool {
-    *calls = calls.saturating_add(1);
-    if stopped {
-        return true;
-    }
-    match u32::try_from(*calls) {
-        Ok(number) => plan.fail.contains(&number),
-        Err(_) => false,
-    }
-}
-
-// Whether the program after so many is the one with this number.
-fn is_next(number: u32, programs: u32) -> bool
-    ensures { IsTrue result ↔ (number ≡ programs + 1) }
-{
-    number > 0 && number - 1 == programs
-}
-
 // Puts other bytes into a page, and keeps what they took the place of. Where there is no room for that, nothing is done.
 fn replace(
     pages: &mut Vec<[u8; 256]>,
@@ -210,6 +207,12 @@ fn replace(
     ensures size { length bytes.now ≡ 256 }
     ensures bytes { AreBytes bytes.now }
     ensures all { All IsPage pages.old.items → All IsPage pages.new.items }
+    ensures full { is_err result ≡ nat_le log.old.program_room log.old.programs }
+    ensures counted { OnOk result (log.new.programs ≡ log.old.programs + 1) }
+    ensures uncounted { OnErr result (log.new.programs ≡ log.old.programs) }
+    ensures sends { log.new.sends ≡ log.old.sends }
+    ensures room { log.new.program_room ≡ log.old.program_room }
+    ensures send_room { log.new.send_room ≡ log.old.send_room }
 {
     if log.push_program(change).is_err() {
         return Err(Failed);
@@ -218,10 +221,21 @@ fn replace(
     Ok(())
 }
 
-// Sends a piece, and keeps how much was sent before it. Where there is no room for that, nothing is done.
+// Sends a piece, and keeps how much was sent before it. There is room for both.
 fn append(sent: &mut Vec<u8>, log: &mut ChangeLog, piece: &[u8]) -> Result<(), Failed>
+    requires some { 0 < length piece.now }
+    requires within { length sent.old.items + length piece.now ≤ log.old.send_room }
+    requires capacity { log.old.send_room ≤ vec_capacity sent.old }
+    requires sends { log.old.sends ≤ length sent.old.items }
+    ensures done { is_err result ≡ false }
+    ensures capacity { vec_capacity sent.old ≤ vec_capacity sent.new }
+    ensures sends { log.new.sends ≤ length sent.new.items }
+    ensures programs { log.new.programs ≡ log.old.programs }
+    ensures room { log.new.program_room ≡ log.old.program_room }
+    ensures send_room { log.new.send_room ≡ log.old.send_room }
     ensures sent { OnOk result (sent.new.items ≡ sent.old.items ++ piece.now) }
-    ensures log { OnOk result (log.new.changes.items ≡ log.old.changes.items ++ Change.SentSoFar (length sent.old.items) ∷ []) }
+    ensures log { OnOk result (log.new.changes.items
+        ≡ log.old.changes.items ++ Change.SentSoFar (length sent.old.items) ∷ []) }
     ensures sent_err { OnErr result (sent.new.items ≡ sent.old.items) }
     ensures log_err { OnErr result (log.new.changes.items ≡ log.old.changes.items) }
 {
@@ -238,10 +252,19 @@ fn append(sent: &mut Vec<u8>, log: &mut ChangeLog, piece: &[u8]) -> Result<(), F
 
 impl Board for MemoryBoard {
     ghost use Rattle.flash_pages.specs.Memory.{memory_view};
+    ghost use Rattle.flash_pages.specs.Plan.{ReadsByPlan, ProgramsByPlan, ReceivesByPlan, SendsByPlan};
 
     ghost view = { memory_view };
 
-    fn ext_read(&mut self, page: u16, into: &mut [u8; 256]) -> Result<(), Failed> {
+    fn ext_read(&mut self, page: u16, into: &mut [u8; 256]) -> Result<(), Failed>
+        requires { page < 2048 }
+        ensures page { OnOk result (Told (memory_view self.old) (λ s.
+            into.new ≡ page_at s (Ext page))) }
+        ensures size { length into.new ≡ 256 }
+        ensures reads { Reads (memory_view self.old) (memory_view self.new) }
+        ensures faults { FlashFaults result (memory_view self.old) (memory_view self.new) }
+        ensures plan { ReadsByPlan (is_err result) self.old self.new }
+    {
         if fails(&self.plan, &mut self.calls, self.stopped) {
             self.flash_faults = raised(self.flash_faults);
             return Err(Failed);
@@ -250,13 +273,21 @@ impl Board for MemoryBoard {
         Ok(())
     }
 
-    fn ext_program(&mut self, page: u16, from: &[u8; 256]) -> Result<(), Failed> {
+    fn ext_program(&mut self, page: u16, from: &[u8; 256]) -> Result<(), Failed>
+        requires { page < 2048 }
+        ensures ok { OnOk result (
+            IsProgrammed (Ext page) from.now (memory_view self.old) (memory_view self.new)) }
+        ensures programs { Programs always (Ext page)
+            (memory_view self.old) (memory_view self.new) }
+        ensures faults { FlashFaults result (memory_view self.old) (memory_view self.new) }
+        ensures plan { ProgramsByPlan (Ext page) from.now (is_err result) self.old self.new }
+    {
         if fails(&self.plan, &mut self.calls, self.stopped) {
             self.flash_faults = raised(self.flash_faults);
             return Err(Failed);
         }
         let stops = is_next(self.plan.stop_at, self.log.program_count());
-        let bytes = if stops { self.plan.spoil } else { *from };
+        let bytes = written(&self.plan, stops, from);
         let change = Change::ExtHeld(page, self.ext[page as usize]);
         if replace(&mut self.ext, &mut self.log, page, &bytes, change).is_err() {
             self.flash_faults = raised(self.flash_faults);
@@ -270,7 +301,15 @@ impl Board for MemoryBoard {
         Ok(())
     }
 
-    fn prog_read(&mut self, page: u16, into: &mut [u8; 256]) -> Result<(), Failed> {
+    fn prog_read(&mut self, page: u16, into: &mut [u8; 256]) -> Result<(), Failed>
+        requires { page < 480 }
+        ensures page { OnOk result (Told (memory_view self.old) (λ s.
+            into.new ≡ page_at s (Prog page))) }
+        ensures size { length into.new ≡ 256 }
+        ensures reads { Reads (memory_view self.old) (memory_view self.new) }
+        ensures faults { FlashFaults result (memory_view self.old) (memory_view self.new) }
+        ensures plan { ReadsByPlan (is_err result) self.old self.new }
+    {
         if fails(&self.plan, &mut self.calls, self.stopped) {
             self.flash_faults = raised(self.flash_faults);
             return Err(Failed);
@@ -279,13 +318,21 @@ impl Board for MemoryBoard {
         Ok(())
     }
 
-    fn prog_program(&mut self, page: u16, from: &[u8; 256]) -> Result<(), Failed> {
+    fn prog_program(&mut self, page: u16, from: &[u8; 256]) -> Result<(), Failed>
+        requires { page < 480 }
+        ensures ok { OnOk result (
+            IsProgrammed (Prog page) from.now (memory_view self.old) (memory_view self.new)) }
+        ensures programs { Programs always (Prog page)
+            (memory_view self.old) (memory_view self.new) }
+        ensures faults { FlashFaults result (memory_view self.old) (memory_view self.new) }
+        ensures plan { ProgramsByPlan (Prog page) from.now (is_err result) self.old self.new }
+    {
         if fails(&self.plan, &mut self.calls, self.stopped) {
             self.flash_faults = raised(self.flash_faults);
             return Err(Failed);
         }
         let stops = is_next(self.plan.stop_at, self.log.program_count());
-        let bytes = if stops { self.plan.spoil } else { *from };
+        let bytes = written(&self.plan, stops, from);
         let change = Change::ProgHeld(page, self.prog[page as usize]);
         if replace(&mut self.prog, &mut self.log, page, &bytes, change).is_err() {
             self.flash_faults = raised(self.flash_faults);
@@ -299,7 +346,15 @@ impl Board for MemoryBoard {
         Ok(())
     }
 
-    fn receive(&mut self, into: &mut [u8]) -> Result<usize, Failed> {
+    fn receive(&mut self, into: &mut [u8]) -> Result<usize, Failed>
+        ensures ok { IfOk result (λ count.
+            Receives count into.old into.new (memory_view self.old) (memory_view self.new)) }
+        ensures left { OnErr result ((memory_view self.new).left ≡ (memory_view self.old).left) }
+        ensures line { UsesLine (λ s x. x ≡ s) (memory_view self.old) (memory_view self.new) }
+        ensures state { (memory_view self.new).state ≡ (memory_view self.old).state }
+        ensures faults { LineFaults result (memory_view self.old) (memory_view self.new) }
+        ensures plan { ReceivesByPlan result (length into.old) self.old self.new }
+    {
         if fails(&self.plan, &mut self.calls, self.stopped) {
             self.line_faults = raised(self.line_faults);
             return Err(Failed);
@@ -311,7 +366,17 @@ impl Board for MemoryBoard {
         Ok(count)
     }
 
-    fn send(&mut self, from: &[u8]) -> Result<usize, Failed> {
+    fn send(&mut self, from: &[u8]) -> Result<usize, Failed>
+        ensures ok { IfOk result (λ count.
+            Sends count from.now (memory_view self.old) (memory_view self.new)) }
+        ensures part { OnErr result (Told (memory_view self.old) (λ s.
+            (x : State) × ((memory_view self.new).state ≡ Some x) × SendsPart from.now s x)) }
+        ensures line { UsesLine (SendsPart from.now)
+            (memory_view self.old) (memory_view self.new) }
+        ensures left { (memory_view self.new).left ≡ (memory_view self.old).left }
+        ensures faults { LineFaults result (memory_view self.old) (memory_view self.new) }
+        ensures plan { SendsByPlan result from.now self.old self.new }
+    {
         if fails(&self.plan, &mut self.calls, self.stopped) {
             self.line_faults = raised(self.line_faults);
             return Err(Failed);

@@ -84,7 +84,7 @@ fn expected(number: u32, stop_at: u32, pattern: u8) -> [u8; 256] {
 
 #[test]
 fn a_stop_spoils_its_page_and_ends_all_calls(rt: HostRuntime) -> Result<(), Fail> {
-    for stop_at in [1, 3, 5] {
+    for stop_at in [1, 2, 3, 4, 5] {
         for pattern in [0, 1, 2] {
             let stop = plan(rt.alloc(), stop_at, spoilt(pattern), 16);
             let mut board = MemoryBoard::new(rt.alloc(), b"ab", stop, 10, 10)?;
