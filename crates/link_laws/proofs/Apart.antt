@@ -16,11 +16,11 @@ use Rattle.avr_reloc.specs.Kind.{shape_of, width_of}
 use Rattle.avr_reloc.specs.Fixups.{AreApart}
 use Rattle.avr_reloc.proofs.Exists.{PairsApart, AllPairs-from_apart}
 use Rattle.component_package.specs.declared.part.Reloc.{Reloc}
-use Rattle.component_package.specs.Component.{Component}
-use Rattle.component_package.specs.Reading.{reloc_width}
-use Rattle.component_package.specs.Grammar.{IsReloc, position_in, RelocsRise, IsComponent}
-use Rattle.component_package.specs.Layout.{Room, room_of, code_total, code_base, load_base}
-use Rattle.component_package.specs.Link.{rooms_of, sites_in, fixup_of, fixups_of}
+use Rattle.component_package.specs.packages.Component.{Component}
+use Rattle.component_package.specs.packages.Reading.{reloc_width}
+use Rattle.component_package.specs.packages.Grammar.{IsReloc, position_in, RelocsRise, IsComponent}
+use Rattle.component_package.specs.link.Layout.{Room, room_of, code_total, code_base, load_base}
+use Rattle.component_package.specs.link.Link.{rooms_of, sites_in, fixup_of, fixups_of}
 
 -- a field ends within its part
 abbrev pub Fits : Component → Reloc → Type 0

@@ -1,28 +1,29 @@
 -- A set's own table has no more records than the set has symbols.
-use Rattle.std.proofs.Common.{◌≡◌, ℕ, ◌+◌, ◌<◌, ◌≤◌, inl, inr, Bool, true, false, eqb, List, [], ◌∷◌, length, Option, Some, None, refl, sym, ap, subst, ◌∙◌, arith}
+use Rattle.std.proofs.Common.{◌≡◌, ℕ, ◌+◌, ◌<◌, ◌≤◌, inl, inr, Bool, true, false, eqb, List, [], ◌∷◌, length, Option, Some, None, refl, cond, sym, ap, subst, ◌∙◌, arith}
 use Rattle.std.specs.Prelude.{◌||◌, not}
-use Rattle.std.specs.Option.{option_map}
+use Rattle.std.specs.Option.{option_map, option_or}
 use Rattle.std.specs.List.{list_any, filter, find, AllByRecursion}
 use Rattle.std.proofs.lemmas.Bool.{cases_Bool, eqb-true}
 use Rattle.component_package.specs.declared.part.Export.{Export}
-use Rattle.component_package.specs.Component.{Component}
-use Rattle.component_package.specs.Link.{Symbols, link_cause, exports_of, symbols_of, is_strong_export_of, definition_of, distinct}
-use Rattle.component_package.specs.Areas.{MergedSymbol, SymbolsRise, table_bytes, Tells}
-use Rattle.component_package.specs.Pages.{merged, IsTableOf}
-use Rattle.link_laws.specs.Sets.{IsSet}
+use Rattle.component_package.specs.packages.Component.{Component}
+use Rattle.component_package.specs.link.Link.{Cause, FlashFull, RamFull, Symbols, IsLate, link_cause, room_cause, symbols_cause, rooms_of, exports_of, symbols_of, is_strong_export_of, definition_of, distinct}
+use Rattle.component_package.specs.link.Layout.{code_total, init_total, bss_total}
+use Rattle.component_package.specs.link.Areas.{MergedSymbol, SymbolsRise, table_bytes, Tells}
+use Rattle.component_package.specs.link.Pages.{merged, IsTableOf}
+use Rattle.component_package.specs.link.Sets.{IsSet}
 use Rattle.link_laws.proofs.Law.{any_map}
 use Rattle.link_laws.proofs.Table.{definition_symbol, either, same_symbol}
 use Rattle.link_laws.proofs.Room.{table_has_room}
-use Rattle.link_laws.proofs.Own.{no_cause, not_above}
+use Rattle.link_laws.proofs.Own.{not_above}
 
 -- ---- Lists of symbols
 
 -- a symbol is in a list
-abbrev occurs : ℕ → List ℕ → Bool
+abbrev pub occurs : ℕ → List ℕ → Bool
 occurs u ss = list_any (λ t. eqb t u) ss
 
 -- the others
-abbrev without : ℕ → List ℕ → List ℕ
+abbrev pub without : ℕ → List ℕ → List ℕ
 without u ss = filter (λ t. not (eqb t u)) ss
 
 -- a greater symbol is another
@@ -43,7 +44,7 @@ without_none u (s ∷ ss) e =
     ]
 
 -- another symbol stays
-without_other : (u s : ℕ) (ss : List ℕ) → eqb s u ≡ false → occurs s (without u ss) ≡ occurs s ss
+pub without_other : (u s : ℕ) (ss : List ℕ) → eqb s u ≡ false → occurs s (without u ss) ≡ occurs s ss
 without_other u s [] e = refl
 without_other u s (t ∷ ts) e =
     elim (cases_Bool (eqb t u)) [
@@ -54,7 +55,7 @@ without_other u s (t ∷ ts) e =
     ]
 
 -- without a symbol that occurs there is one different symbol fewer
-fewer : (u : ℕ) (ss : List ℕ) → occurs u ss ≡ true → length (distinct (without u ss)) + 1 ≡ length (distinct ss)
+pub fewer : (u : ℕ) (ss : List ℕ) → occurs u ss ≡ true → length (distinct (without u ss)) + 1 ≡ length (distinct ss)
 fewer u [] e = absurd cc
 fewer u (s ∷ ss) e =
     elim (cases_Bool (eqb s u)) [
@@ -82,7 +83,7 @@ later_occur u low (r ∷ rs) ss lt rise all =
     (without_other u r.symbol ss (differ r.symbol u (omega (arith, lt, rise.0))) ∙ all.0, later_occur u (r.symbol + 1) rs ss (omega (arith, lt, rise.0)) rise.1 all.1)
 
 -- there are no more records than different symbols
-not_more : (low : ℕ) (rs : List MergedSymbol) (ss : List ℕ) → SymbolsRise low rs → AllByRecursion (λ r. occurs r.symbol ss ≡ true) rs → length rs ≤ length (distinct ss)
+pub not_more : (low : ℕ) (rs : List MergedSymbol) (ss : List ℕ) → SymbolsRise low rs → AllByRecursion (λ r. occurs r.symbol ss ≡ true) rs → length rs ≤ length (distinct ss)
 not_more low [] ss rise all = omega arith
 not_more low (r ∷ rs) ss rise all =
     let rest = not_more (r.symbol + 1) rs (without r.symbol ss) rise.1 (later_occur r.symbol (r.symbol + 1) rs ss (omega arith) rise.1 all.1) in
@@ -115,18 +116,48 @@ given_occurs set s None r e f = absurd cc
 given_occurs set s (Some x) r e f = defined_occurs set s x e
 
 -- and those of all records
-all_occur : (set : List Component) (rs : List MergedSymbol) → AllByRecursion (λ r. option_map (merged set) (definition_of set r.symbol) ≡ Some r) rs
+pub all_occur : (set : List Component) (rs : List MergedSymbol) → AllByRecursion (λ r. option_map (merged set) (definition_of set r.symbol) ≡ Some r) rs
     → AllByRecursion (λ r. occurs r.symbol (symbols_of set) ≡ true) rs
 all_occur set [] each = tt
 all_occur set (r ∷ rs) each = (given_occurs set r.symbol (definition_of set r.symbol) r refl each.0, all_occur set rs each.1)
 
--- the own table of a set without a cause is a symbol table
-pub own_table : (set : List Component) (table : List MergedSymbol) → IsSet set → link_cause set ≡ None → IsTableOf set table → Tells (table_bytes table) table
-own_table set table is none t =
-    let no = no_cause set none in
+-- ---- Late causes
+
+-- a cause that comes before the late ones
+abbrev Early : Option Cause → Type 0
+Early o = IsLate o → o ≡ None
+
+-- one above a limit does, where its kind does
+early_above : (b : Bool) (cause : Cause) → (IsLate (Some cause) → ⊥) → Early (cond b (Some cause) None)
+early_above true cause never late = absurd (never late)
+early_above false cause never late = refl
+
+-- the first of two that do
+early_or : (a b : Option Cause) → Early a → Early b → Early (option_or a b)
+early_or None b first second = second
+early_or (Some c) b first second = first
+
+-- where the first of two is late, the former is none if it comes before the late ones
+late_both : (a b : Option Cause) → Early a → IsLate (option_or a b) → (a ≡ None) × IsLate b
+late_both None b early late = (refl, late)
+late_both (Some c) b early late = absurd (let none = early late in cc)
+
+-- a set with a late cause, or with none, has room, and not too many symbols
+few_symbols : (set : List Component) → IsLate (link_cause set) → (room_cause (rooms_of set) ≡ None) × (symbols_cause set ≡ None)
+unfolding link_cause
+few_symbols set late =
+    let rooms = rooms_of set in
+    let room = late_both (room_cause rooms) _ (early_or _ _ (early_above _ (FlashFull (code_total rooms + init_total rooms)) (λ no. no)) (early_above _ (RamFull (init_total rooms + bss_total rooms)) (λ no. no))) late in
+    let symbols = late_both (symbols_cause set) _ (early_above _ (Symbols (length (distinct (symbols_of set)))) (λ no. no)) room.1 in
+    (room.0, symbols.0)
+
+-- the own table of a set that nothing refuses, but for a late cause, is a symbol table
+pub own_table : (set : List Component) (table : List MergedSymbol) → IsSet set → IsLate (link_cause set) → IsTableOf set table → Tells (table_bytes table) table
+own_table set table is late t =
+    let no = few_symbols set late in
     record {
-      few = omega (arith, not_more 16 table (symbols_of set) t.rise (all_occur set table t.each), not_above 1024 Symbols (length (distinct (symbols_of set))) _ refl no.symbols);
-      symbols = table_has_room set table is no.room t;
+      few = omega (arith, not_more 16 table (symbols_of set) t.rise (all_occur set table t.each), not_above 1024 Symbols (length (distinct (symbols_of set))) _ refl no.1);
+      symbols = table_has_room set table is no.0 t;
       rise = t.rise;
       spelled = refl;
     }

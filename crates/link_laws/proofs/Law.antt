@@ -17,10 +17,10 @@ use Rattle.avr_reloc.proofs.Fixups.{ArePut-same}
 use Rattle.link_laws.proofs.Apart.{all_append, width_positive}
 use Rattle.component_package.specs.declared.part.Site.{Site}
 use Rattle.component_package.specs.declared.part.Export.{Export}
-use Rattle.component_package.specs.Component.{Component}
-use Rattle.component_package.specs.Link.{sites_of, plain_of, base_of_place, definition_of, address_of, fixup_with, fixup_of, IsImage}
-use Rattle.component_package.specs.Areas.{MergedSymbol}
-use Rattle.component_package.specs.Pages.{merged, IsTableOf, address_in, in_image_order, listed, padded, ArePatched}
+use Rattle.component_package.specs.packages.Component.{Component}
+use Rattle.component_package.specs.link.Link.{sites_of, plain_of, base_of_place, definition_of, address_of, fixup_with, fixup_of, IsImage}
+use Rattle.component_package.specs.link.Areas.{MergedSymbol}
+use Rattle.component_package.specs.link.Pages.{merged, IsTableOf, address_in, in_image_order, listed, padded, ArePatched}
 
 -- ---- the table gives the set's addresses
 

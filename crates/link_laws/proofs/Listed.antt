@@ -10,13 +10,13 @@ use Rattle.avr_reloc.specs.declared.fixup.Fixup.{Fixup}
 use Rattle.avr_reloc.specs.Fixups.{end_of}
 use Rattle.component_package.specs.declared.part.Reloc.{Reloc}
 use Rattle.component_package.specs.declared.part.Site.{Site}
-use Rattle.component_package.specs.Component.{Component}
-use Rattle.component_package.specs.Layout.{room_of, code_base, load_base, code_total}
-use Rattle.component_package.specs.Link.{rooms_of, fixup_with, sites_in, sites_of}
-use Rattle.component_package.specs.Areas.{FieldsRise}
-use Rattle.component_package.specs.Pages.{in_image_order}
-use Rattle.component_package.specs.Reading.{reloc_width}
-use Rattle.component_package.specs.Grammar.{position_in, RelocsRise}
+use Rattle.component_package.specs.packages.Component.{Component}
+use Rattle.component_package.specs.link.Layout.{room_of, code_base, load_base, code_total}
+use Rattle.component_package.specs.link.Link.{rooms_of, fixup_with, sites_in, sites_of}
+use Rattle.component_package.specs.link.Areas.{FieldsRise}
+use Rattle.component_package.specs.link.Pages.{in_image_order}
+use Rattle.component_package.specs.packages.Reading.{reloc_width}
+use Rattle.component_package.specs.packages.Grammar.{position_in, RelocsRise}
 use Rattle.link_laws.proofs.Apart.{Fits, IsAt, AreAt, HasFieldsInOrder, stands, wide, rooms_length}
 
 -- fields rise from low on, and end by high

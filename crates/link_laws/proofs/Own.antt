@@ -17,12 +17,12 @@ use Rattle.avr_reloc.specs.Fixups.{end_of, AreApart, CanBePut}
 use Rattle.avr_reloc.proofs.Exists.{PairsApart, AllPairs-from_apart, exists}
 use Rattle.avr_reloc.proofs.Fixups.{ArePut-same}
 use Rattle.component_package.specs.declared.part.Site.{Site}
-use Rattle.component_package.specs.Component.{Component}
-use Rattle.component_package.specs.Grammar.{IsComponent}
-use Rattle.component_package.specs.Link.{Cause, Relocations, fixup_with, above, link_cause, room_cause, symbols_cause, relocations_cause, duplicate_cause, sites_cause, first_cause, site_cause, range_cause, rooms_of, sites_of, target_of, place_of_site, fixup_of, fixups_of, plain_of, IsImage}
-use Rattle.component_package.specs.Areas.{MergedSymbol, IsSymbol, FieldsRise, list_bytes, Lists}
-use Rattle.component_package.specs.Pages.{IsTableOf, address_in, listed, padded, cut, Fits, IsPatched, IsPages, in_image_order}
-use Rattle.link_laws.specs.Sets.{IsSet}
+use Rattle.component_package.specs.packages.Component.{Component}
+use Rattle.component_package.specs.packages.Grammar.{IsComponent}
+use Rattle.component_package.specs.link.Link.{Cause, Relocations, fixup_with, above, link_cause, room_cause, symbols_cause, relocations_cause, duplicate_cause, sites_cause, first_cause, site_cause, range_cause, rooms_of, sites_of, target_of, place_of_site, fixup_of, fixups_of, plain_of, IsImage}
+use Rattle.component_package.specs.link.Areas.{MergedSymbol, IsSymbol, FieldsRise, list_bytes, Lists}
+use Rattle.component_package.specs.link.Pages.{IsTableOf, address_in, listed, padded, cut, Fits, IsPatched, IsPages, in_image_order}
+use Rattle.component_package.specs.link.Sets.{IsSet}
 use Rattle.link_laws.specs.Laws.{SomeImage, SomePages}
 use Rattle.link_laws.proofs.Apart.{all_at_place, in_order, fields_of_set_apart}
 use Rattle.link_laws.proofs.Law.{all_ordered, image_patched, patched_pages, same_list}

@@ -13,14 +13,14 @@ use Rattle.component_package.specs.declared.part.Site.{Site}
 use Rattle.component_package.specs.declared.part.Export.{Export}
 use Rattle.component_package.specs.declared.part.Place.{Place}
 use Rattle.component_package.specs.declared.part.Place.TheVariants as places
-use Rattle.component_package.specs.Component.{Component}
-use Rattle.component_package.specs.Reading.{reloc_width, length_of, header_of_component}
-use Rattle.component_package.specs.Grammar.{IsExport, IsReloc, IsComponent}
-use Rattle.component_package.specs.Layout.{Room, room_of, code_total, init_total, bss_total, linker_symbol}
-use Rattle.component_package.specs.Link.{rooms_of, exports_of, sites_in, sites_of, base_of_place, definition_of, fixed_target, target_with, place_of_site, fixup_with, room_cause, plain_of}
-use Rattle.component_package.specs.Areas.{MergedSymbol, IsSymbol, IsEntry}
-use Rattle.component_package.specs.Pages.{merged, IsTableOf, address_in, listed}
-use Rattle.link_laws.specs.Sets.{IsSet}
+use Rattle.component_package.specs.packages.Component.{Component}
+use Rattle.component_package.specs.packages.Reading.{reloc_width, length_of, header_of_component}
+use Rattle.component_package.specs.packages.Grammar.{IsExport, IsReloc, IsComponent}
+use Rattle.component_package.specs.link.Layout.{Room, room_of, code_total, init_total, bss_total, linker_symbol}
+use Rattle.component_package.specs.link.Link.{rooms_of, exports_of, sites_in, sites_of, base_of_place, definition_of, fixed_target, target_with, place_of_site, fixup_with, room_cause, plain_of}
+use Rattle.component_package.specs.link.Areas.{MergedSymbol, IsSymbol, IsEntry}
+use Rattle.component_package.specs.link.Pages.{merged, IsTableOf, address_in, listed}
+use Rattle.component_package.specs.link.Sets.{IsSet}
 use Rattle.link_laws.proofs.Apart.{all_append, IsAt, AreAt, all_at_place, fits, room_at, rooms_length}
 use Rattle.link_laws.proofs.Law.{all_ordered}
 use Rattle.link_laws.proofs.Table.{all_exports, definition_has, find_has}

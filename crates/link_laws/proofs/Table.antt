@@ -6,12 +6,12 @@ use Rattle.std.specs.List.{list_any, find, flat_map, enumerate_from, AllByRecurs
 use Rattle.std.proofs.lemmas.Bool.{cases_Bool, cases_lt, eqb-true, and_parts, or_cases}
 use Rattle.std.proofs.lemmas.List.Concat.{flat_map-cons}
 use Rattle.component_package.specs.declared.part.Export.{Export}
-use Rattle.component_package.specs.Component.{Component}
-use Rattle.component_package.specs.Grammar.{IsExport, ExportsRise, IsComponent}
-use Rattle.component_package.specs.Link.{exports_of, is_strong_export_of, definition_of}
-use Rattle.component_package.specs.Areas.{MergedSymbol, SymbolsRise}
-use Rattle.component_package.specs.Pages.{merged, IsTableOf}
-use Rattle.link_laws.specs.Sets.{IsSet}
+use Rattle.component_package.specs.packages.Component.{Component}
+use Rattle.component_package.specs.packages.Grammar.{IsExport, ExportsRise, IsComponent}
+use Rattle.component_package.specs.link.Link.{exports_of, is_strong_export_of, definition_of}
+use Rattle.component_package.specs.link.Areas.{MergedSymbol, SymbolsRise}
+use Rattle.component_package.specs.link.Pages.{merged, IsTableOf}
+use Rattle.component_package.specs.link.Sets.{IsSet}
 use Rattle.link_laws.specs.Laws.{SomeTable}
 use Rattle.link_laws.proofs.Apart.{all_append, IsAt, AreAt, all_at_place}
 

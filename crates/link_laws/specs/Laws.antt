@@ -3,11 +3,12 @@ use Rattle.std.specs.Prelude.{◌≡◌, ℕ, ◌≤◌, List, length, Some, Non
 use Rattle.std.specs.List.{AllByRecursion, AllPairs}
 use Rattle.avr_reloc.specs.declared.fixup.Fixup.{Fixup}
 use Rattle.avr_reloc.specs.Fixups.{AreApart}
-use Rattle.component_package.specs.Component.{Component}
-use Rattle.component_package.specs.Link.{Cause, link_cause, room_cause, rooms_of, fixups_of, IsImage}
-use Rattle.component_package.specs.Areas.{MergedSymbol, IsSymbol, table_bytes, Tells, FieldsRise, list_bytes, Lists}
-use Rattle.component_package.specs.Pages.{IsTableOf, listed, Fits, IsPatched, IsPages}
-use Rattle.link_laws.specs.Sets.{IsSet}
+use Rattle.component_package.specs.declared.limits.TheConstants.{SET_RELOCATIONS}
+use Rattle.component_package.specs.packages.Component.{Component}
+use Rattle.component_package.specs.link.Link.{Cause, IsLate, link_cause, room_cause, rooms_of, fixups_of, IsImage}
+use Rattle.component_package.specs.link.Areas.{MergedSymbol, IsSymbol, table_bytes, Tells, FieldsRise, list_bytes, Lists}
+use Rattle.component_package.specs.link.Pages.{IsTableOf, listed, Fits, IsPatched, IsPages}
+use Rattle.component_package.specs.link.Sets.{IsSet}
 
 -- ---- Images
 
@@ -44,9 +45,9 @@ TableHasRoom =
     (set : List Component) (table : List MergedSymbol) → IsSet set → room_cause (rooms_of set) ≡ None → IsTableOf set table
     → AllByRecursion IsSymbol table
 
--- the own table of a set without a cause is a symbol table
+-- the own table of a set that nothing refuses, but for an undefined symbol or a field out of range, is a symbol table
 abbrev pub OwnTableTells : Type 0
-OwnTableTells = (set : List Component) (table : List MergedSymbol) → IsSet set → link_cause set ≡ None → IsTableOf set table → Tells (table_bytes table) table
+OwnTableTells = (set : List Component) (table : List MergedSymbol) → IsSet set → IsLate (link_cause set) → IsTableOf set table → Tells (table_bytes table) table
 
 -- ---- Lists
 
@@ -58,7 +59,7 @@ ListRises = (set : List Component) (table : List MergedSymbol) → IsSet set →
 abbrev pub ListHasRoom : Type 0
 ListHasRoom =
     (set : List Component) (table : List MergedSymbol) → IsSet set → room_cause (rooms_of set) ≡ None → AllByRecursion IsSymbol table
-    → length (listed set table) ≤ 8192 → Lists (list_bytes (listed set table)) (listed set table)
+    → length (listed set table) ≤ SET_RELOCATIONS → Lists (list_bytes (listed set table)) (listed set table)
 
 -- the list of a set without a cause and of its own table is a relocation list, and fits the set
 pub record OwnListFits : Type 0 where

@@ -26,7 +26,7 @@ pub fn table_has_room()
     ensures { TableHasRoom }
 {}
 
-/// The own table of a set that nothing refuses is a symbol table, of at most 1,024 records.
+/// The own table of a set that nothing refuses, but for an undefined symbol or a field out of range, is a symbol table, of at most 1,024 records.
 pub fn own_table_tells()
     ensures { OwnTableTells }
 {}

@@ -3,14 +3,14 @@ use Rattle.std.proofs.Common.{◌≡◌, ℕ, zero, suc, ◌+◌, ◌-◌, ◌*�
 use Rattle.std.specs.List.{concat, range_with_len}
 use Rattle.std.proofs.lemmas.List.{get_or-replicate, take-replicate, drop-replicate, length-replicate, replicate-append-replicate, same_lists}
 use Rattle.std.proofs.lemmas.List.FromFn.{length-map-range_with_len, get_or-map-range_with_len}
-use Rattle.component_package.specs.Link.{link_cause, IsImage}
-use Rattle.component_package.specs.Pages.{page_in, cut, IsPages}
-use Rattle.component_package.specs.Manifest.{StoredRelease, Stores}
-use Rattle.component_package.specs.Store.{slot_at, slots_of}
-use Rattle.component_package.specs.Sides.{Parts, parts_of, is_open, pages_from, fmt, man, sym as sym_gate, rel, img, go_a, go_b, sel, chosen_side, is_pending}
-use Rattle.component_package.specs.Sound.{IsSound, HasNoCause, HasImage}
-use Rattle.component_package.specs.Machine.{Mote}
-use Rattle.component_package.specs.Headline.{has_incoming, is_linked, StandsFor}
+use Rattle.component_package.specs.link.Link.{link_cause, IsImage}
+use Rattle.component_package.specs.link.Pages.{page_in, cut, IsPages}
+use Rattle.component_package.specs.packages.Manifest.{StoredRelease, Stores}
+use Rattle.component_package.specs.mote.Store.{slot_at, slots_of}
+use Rattle.component_package.specs.mote.Sides.{Parts, parts_of, is_open, pages_from, fmt, man, sym as sym_gate, rel, img, go_a, go_b, sel, chosen_side, is_pending}
+use Rattle.component_package.specs.mote.Sound.{IsSound, HasNoCause, HasImage}
+use Rattle.component_package.specs.mote.Machine.{Mote}
+use Rattle.component_package.specs.mote.Headline.{has_incoming, is_linked, StandsFor}
 use Rattle.mote_laws.specs.Formatted.{blank_prog, formatted_ext, formatted_mote, FormattedIsSound}
 
 -- ---- program flash

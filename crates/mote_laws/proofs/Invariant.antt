@@ -4,22 +4,22 @@ use Rattle.std.proofs.lemmas.Bool.{false≢true, both_ways, and_from, not_from_f
 use Rattle.std.proofs.lemmas.Option.{same_Some}
 use Rattle.std.proofs.lemmas.List.{get_or-take, get_or-drop, get_or_past, get_or-replicate, length-take, length-replicate}
 use Rattle.avr_reloc.specs.Field.{AreBytes}
-use Rattle.component_package.specs.Component.{Component}
-use Rattle.component_package.specs.Link.{link_cause}
-use Rattle.component_package.specs.Manifest.{StoredRelease, Placed, IsStored, release_in}
-use Rattle.component_package.specs.Store.{HasSet, components_of, held_slot, slots_for}
-use Rattle.component_package.specs.FirstMachine.{filled_page}
-use Rattle.component_package.specs.Sides.{Parts, img, chosen_side, other_side, is_pending}
-use Rattle.component_package.specs.Sound.{IsSound, HasNoCause}
-use Rattle.component_package.specs.Headline.{StandsFor, StandsForIncoming}
-use Rattle.component_package.specs.Frames.{Frame}
-use Rattle.component_package.specs.Machine.{Mote, Chosen, chosen_of, with_page_of, step, boot_frame, mote_from}
+use Rattle.component_package.specs.packages.Component.{Component}
+use Rattle.component_package.specs.link.Link.{link_cause}
+use Rattle.component_package.specs.packages.Manifest.{StoredRelease, Placed, IsStored, release_in}
+use Rattle.component_package.specs.mote.Store.{HasSet, components_of, held_slot, slots_for}
+use Rattle.component_package.specs.mote.Page.{filled_page}
+use Rattle.component_package.specs.mote.Sides.{Parts, img, chosen_side, other_side, is_pending}
+use Rattle.component_package.specs.mote.Sound.{IsSound, HasNoCause}
+use Rattle.component_package.specs.mote.Headline.{StandsFor, StandsForIncoming}
+use Rattle.component_package.specs.mote.Frames.{Frame, OnlyLastEnds}
+use Rattle.component_package.specs.mote.Machine.{Mote, Chosen, chosen_of, with_page_of, step, boot_frame, mote_from}
 use Rattle.component_package.proofs.ManifestLaws.{faultless_manifests_spell, stored_release_is_one}
 use Rattle.mote_laws.specs.Steps.{IsUnused}
 use Rattle.mote_laws.specs.Runs.{IsWhole, IsLinkedWhole}
 use Rattle.mote_laws.specs.Sets.{AreByteSlots}
 use Rattle.mote_laws.specs.Formatted.{formatted_mote}
-use Rattle.mote_laws.specs.Invariant.{ComesNext, IsMote, AreByteFrames, MotesStayMotes, SoundIsAMote}
+use Rattle.mote_laws.specs.Invariant.{ComesNext, IsMote, AreByteFrames, FramesAreByteFrames, MotesStayMotes, SoundIsAMote}
 use Rattle.mote_laws.proofs.Kept.{set_kept, components_kept}
 use Rattle.mote_laws.proofs.Slots.{slots_are_found}
 use Rattle.mote_laws.proofs.Sets.{sets_are_faultless}
@@ -38,11 +38,11 @@ bytes_append (x ∷ a) b one more zero = one 0
 bytes_append (x ∷ a) b one more (suc i) = bytes_append a b (λ k. one (suc k)) more i
 
 -- some of the first bytes
-bytes_take : (n : ℕ) (a : List ℕ) → AreBytes a → AreBytes (take n a)
+pub bytes_take : (n : ℕ) (a : List ℕ) → AreBytes a → AreBytes (take n a)
 bytes_take n a bytes i = ⊎_elim (λ low. rw (get_or-take n a i 0 low) (bytes i)) (λ high. rw (get_or_past (take n a) i 0 (omega (arith, length-take n a))) (omega arith)) (cases_lt i n)
 
 -- the bytes behind some
-bytes_drop : (n : ℕ) (a : List ℕ) → AreBytes a → AreBytes (drop n a)
+pub bytes_drop : (n : ℕ) (a : List ℕ) → AreBytes a → AreBytes (drop n a)
 bytes_drop n a bytes i = rw (get_or-drop n a i 0) (bytes (n + i))
 
 -- one byte again and again
@@ -50,7 +50,7 @@ bytes_replicate : (n x : ℕ) → x < 256 → AreBytes (replicate n x)
 bytes_replicate n x small i = ⊎_elim (λ low. rw (get_or-replicate n i x 0 low) small) (λ high. rw (get_or_past (replicate n x) i 0 (omega (arith, length-replicate n x))) (omega arith)) (cases_lt i n)
 
 -- a slot with a page of bytes in it
-bytes_page : (page : ℕ) (bytes slot : List ℕ) → AreBytes bytes → AreBytes slot → AreBytes (with_page_of page bytes slot)
+pub bytes_page : (page : ℕ) (bytes slot : List ℕ) → AreBytes bytes → AreBytes slot → AreBytes (with_page_of page bytes slot)
 unfolding filled_page
 bytes_page page bytes slot new old =
     bytes_append (take (256 * page) slot) (take 256 (bytes ++ replicate 256 255) ++ drop (256 * page + 256) slot) (bytes_take (256 * page) slot old)
@@ -63,7 +63,7 @@ bytes_none : AreBytes []
 bytes_none i = omega arith
 
 -- slots with one of them set
-slots_set : (store : List (List ℕ)) (s : ℕ) (slot : List ℕ) → AreByteSlots store → AreBytes slot → AreByteSlots (set store s slot)
+pub slots_set : (store : List (List ℕ)) (s : ℕ) (slot : List ℕ) → AreByteSlots store → AreBytes slot → AreByteSlots (set store s slot)
 slots_set store s slot all one t = ⊎_elim
     (λ same. ⊎_elim
     (λ within. subst AreBytes (sym (ap (λ k. get_or (set store s slot) k []) same ∙ get_or-set_same store s slot [] within)) one)
@@ -75,7 +75,7 @@ slots_set store s slot all one t = ⊎_elim
 -- ---- what comes in
 
 -- the slot of an entry that isn't held is no slot of the current release
-next_unused : (current m : StoredRelease) (k : ℕ) (p : Placed) → IsStored current → ComesNext current (Some m) → slice_get m.placed k ≡ Some p → is_some (held_slot current p.entry) ≡ false → IsUnused current p.slot
+pub next_unused : (current m : StoredRelease) (k : ℕ) (p : Placed) → IsStored current → ComesNext current (Some m) → slice_get m.placed k ≡ Some p → is_some (held_slot current p.entry) ≡ false → IsUnused current p.slot
 next_unused current m k p stored (r, release, above, is) at new =
     slots_are_found.new current r k p stored release (ap (λ (n : StoredRelease). slice_get n.placed k) (sym is) ∙ at) (not_held (held_slot current p.entry) new)
 
@@ -84,7 +84,7 @@ next_stored : (current m : StoredRelease) → IsStored current → ComesNext cur
 next_stored current m stored (r, release, above, is) = subst IsStored (sym is) (slots_are_found.stored current r stored release)
 
 -- what comes in where the option is known
-comes_some : (s : Mote) (m : StoredRelease) → IsMote s → s.incoming ≡ Some m → ComesNext s.current (Some m)
+pub comes_some : (s : Mote) (m : StoredRelease) → IsMote s → s.incoming ≡ Some m → ComesNext s.current (Some m)
 comes_some s m mote is = subst (ComesNext s.current) is mote.incoming
 
 -- the set of what is whole
@@ -107,6 +107,15 @@ record Stays (s : Mote) : Type 0 where
 stays_with : (s : Mote) (next : Option StoredRelease) (linked standing : Bool) → IsMote s → ComesNext s.current next
     → Stays (record { current = s.current; incoming = next; store = s.store; linked = linked; standing = standing })
 stays_with s next linked standing mote comes = record { bytes = mote.bytes; current = mote.current; set = mote.set; free = mote.free; incoming = comes }
+
+-- frames that only the last one ends have bytes as payloads
+only_bytes : (fs : List Frame) → OnlyLastEnds fs → AreByteFrames fs
+only_bytes [] each = tt
+only_bytes (f ∷ fs) each = (each.0.bytes, only_bytes fs each.2)
+
+-- so have those that a line gives
+pub byte_frames : FramesAreByteFrames
+byte_frames bytes fs rest are = only_bytes fs are.each
 
 -- each step, by its row
 step_stays : (s : Mote) (f : Frame) → AreBytes f.payload → IsMote s → Stays (step s f).mote

@@ -2,14 +2,14 @@
 use Rattle.std.proofs.Common.{◌≡◌, ◌≢◌, ℕ, List, [], ◌∷◌, false, map, set, take, sym, ◌∙◌, ap, subst, refl, get_or-set_other, arith}
 use Rattle.std.specs.List.{AllByRecursion}
 use Rattle.sha2.specs.Sha256.{sha256}
-use Rattle.component_package.specs.Grammar.{Spells}
-use Rattle.component_package.specs.Component.{Component}
-use Rattle.component_package.specs.Reading.{component_of}
-use Rattle.component_package.specs.Link.{link_cause}
-use Rattle.component_package.specs.Manifest.{StoredRelease, Placed, Stores}
-use Rattle.component_package.specs.Store.{package_in, HoldsPackage, HasSet, components_of, is_taken}
-use Rattle.component_package.specs.Pages.{IsPages}
-use Rattle.component_package.specs.Sound.{HasNoCause, HasImage}
+use Rattle.component_package.specs.packages.Grammar.{Spells}
+use Rattle.component_package.specs.packages.Component.{Component}
+use Rattle.component_package.specs.packages.Reading.{component_of}
+use Rattle.component_package.specs.link.Link.{link_cause}
+use Rattle.component_package.specs.packages.Manifest.{StoredRelease, Placed, Stores}
+use Rattle.component_package.specs.mote.Store.{package_in, HoldsPackage, HasSet, components_of, is_taken}
+use Rattle.component_package.specs.link.Pages.{IsPages}
+use Rattle.component_package.specs.mote.Sound.{HasNoCause, HasImage}
 use Rattle.mote_laws.specs.Steps.{IsUnused}
 
 -- another slot's bytes are as they were

@@ -11,3 +11,4 @@ pub mod Stands
 pub mod Words
 pub mod Invariant
 mod WrongOrders
+pub mod Standing

@@ -1,12 +1,12 @@
 -- The mote that parts stand for.
 use Rattle.std.proofs.Common.{◌≡◌, ℕ, ◌<◌, Bool, true, false, cond, List, Option, Some, None, refl, sym, ap, ◌∙◌, arith}
 use Rattle.std.proofs.lemmas.Bool.{both_ways}
-use Rattle.component_package.specs.Manifest.{StoredRelease, Stores}
-use Rattle.component_package.specs.Store.{slots_for}
-use Rattle.component_package.specs.Sides.{Parts, chosen_side, other_side, is_pending, man}
-use Rattle.component_package.specs.Sound.{IsSound, HasNoCause, IsNext}
-use Rattle.component_package.specs.Machine.{Mote}
-use Rattle.component_package.specs.Headline.{has_incoming, is_linked, StandsForIncoming, StandsFor}
+use Rattle.component_package.specs.packages.Manifest.{StoredRelease, Stores}
+use Rattle.component_package.specs.mote.Store.{slots_for}
+use Rattle.component_package.specs.mote.Sides.{Parts, chosen_side, other_side, is_pending, man}
+use Rattle.component_package.specs.mote.Sound.{IsSound, HasNoCause, IsNext}
+use Rattle.component_package.specs.mote.Machine.{Mote}
+use Rattle.component_package.specs.mote.Headline.{has_incoming, is_linked, StandsForIncoming, StandsFor}
 use Rattle.component_package.proofs.ManifestLaws.{stored_release_is_one}
 use Rattle.mote_laws.specs.Runs.{IsAbove, IsRising}
 use Rattle.mote_laws.specs.Motes.{PartsStandForOne}

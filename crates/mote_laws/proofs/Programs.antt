@@ -5,8 +5,8 @@ use Rattle.std.proofs.lemmas.List.{drop-set-lt, drop-set-add, take-set-le, same_
 use Rattle.std.proofs.lemmas.Bool.{cases_lt, cases_eq, cases_order}
 use Rattle.std.proofs.lemmas.List.FromFn.{length-map-range_with_len, get_or-map-range_with_len}
 use Rattle.std.specs.List.{concat, range_with_len}
-use Rattle.component_package.specs.Store.{slot_at, slots_of}
-use Rattle.component_package.specs.Sides.{is_open, is_on_b, parts_of, pages_from}
+use Rattle.component_package.specs.mote.Store.{slot_at, slots_of}
+use Rattle.component_package.specs.mote.Sides.{is_open, is_on_b, parts_of, pages_from}
 use Rattle.mote_laws.specs.Programs.{EachPageIsInOnePart, JoinedPageIsPut}
 
 -- what is behind some pages after one of those is set

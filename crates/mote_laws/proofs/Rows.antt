@@ -5,12 +5,12 @@ use Rattle.std.proofs.lemmas.Bool.{ltb-true, not-false}
 use Rattle.component_package.specs.declared.answer.Answer.{Answer}
 use Rattle.component_package.specs.declared.answer.Answer.TheVariants as answers
 use Rattle.component_package.specs.declared.manifest.ManifestFault.{ManifestFault}
-use Rattle.component_package.specs.Manifest.{StoredRelease, Placed, manifest_fault, number_of_manifest_fault, release_in}
-use Rattle.component_package.specs.Store.{SetFault, Missing, BadPackage, set_fault, components_of, held_slot, is_same, slots_for}
-use Rattle.component_package.specs.Link.{Cause, FlashFull, RamFull, Symbols, Relocations, Duplicate, Undefined, Range, link_cause}
-use Rattle.component_package.specs.Frames.{Frame}
-use Rattle.component_package.specs.FirstMachine.{filled_page}
-use Rattle.component_package.specs.Machine.{Mote, Step, is_bad_frame, unless_standing, is_incoming, incoming_number, status_number, refuses, manifest_is, is_piece_of, with_page_of, cause_answer, take_manifest, take_piece, take_piece_of, link_set, link_held, link_incoming, commit_incoming, step}
+use Rattle.component_package.specs.packages.Manifest.{StoredRelease, Placed, manifest_fault, number_of_manifest_fault, release_in}
+use Rattle.component_package.specs.mote.Store.{SetFault, Missing, BadPackage, set_fault, components_of, held_slot, is_same, slots_for}
+use Rattle.component_package.specs.link.Link.{Cause, FlashFull, RamFull, Symbols, Relocations, Duplicate, Undefined, Range, link_cause}
+use Rattle.component_package.specs.mote.Frames.{Frame}
+use Rattle.component_package.specs.mote.Page.{filled_page}
+use Rattle.component_package.specs.mote.Machine.{Mote, Step, is_bad_frame, unless_standing, is_incoming, incoming_number, status_number, refuses, manifest_is, is_piece_of, with_page_of, cause_answer, take_manifest, take_piece, take_piece_of, link_set, link_held, link_incoming, commit_incoming, step}
 use Rattle.mote_laws.specs.Runs.{is_served, is_of_current}
 
 -- what holds of the step in each row

@@ -5,11 +5,11 @@ use Rattle.std.proofs.lemmas.Option.{same_Some}
 use Rattle.std.proofs.lemmas.Bool.{false≢true, both_ways, and_parts, and_from, not_from_false}
 use Rattle.component_package.specs.declared.answer.Answer.{Answer}
 use Rattle.component_package.specs.declared.answer.Answer.TheVariants as answers
-use Rattle.component_package.specs.Manifest.{StoredRelease}
-use Rattle.component_package.specs.Link.{link_cause}
-use Rattle.component_package.specs.Store.{components_of}
-use Rattle.component_package.specs.Frames.{Frame}
-use Rattle.component_package.specs.Machine.{Mote, Step, step, commits, mote_from, commits_from, answers_from, boot_frame, chosen_of, Chosen}
+use Rattle.component_package.specs.packages.Manifest.{StoredRelease}
+use Rattle.component_package.specs.link.Link.{link_cause}
+use Rattle.component_package.specs.mote.Store.{components_of}
+use Rattle.component_package.specs.mote.Frames.{Frame}
+use Rattle.component_package.specs.mote.Machine.{Mote, Step, step, commits, mote_from, commits_from, answers_from, boot_frame, chosen_of, Chosen}
 use Rattle.mote_laws.specs.Runs.{CommitsAreWhole, IsLinkedWhole, IsWhole, RunsJoin, is_of_current, AnswersTellTheCurrent, is_refusal, RefusalsChangeNothing, is_served, MachineIsTotal, OnlyItsAnswerChanges, IsAbove, IsRising, ReleasesRise, CommitsRise}
 use Rattle.mote_laws.proofs.Rows.{each_row}
 

@@ -6,15 +6,15 @@ use Rattle.std.proofs.lemmas.Bool.{eqb-true, eq-eqb, and_parts, and_from, not-fa
 use Rattle.std.proofs.lemmas.List.{get_or-take, get_or_past, length-take}
 use Rattle.avr_reloc.specs.Field.{AreBytes}
 use Rattle.component_package.specs.declared.fault.PackageFault.{PackageFault}
-use Rattle.component_package.specs.Component.{Component}
-use Rattle.component_package.specs.Reading.{first_fault, package_fault, number_of_fault, component_of, header_of}
+use Rattle.component_package.specs.packages.Component.{Component}
+use Rattle.component_package.specs.packages.Reading.{first_fault, package_fault, number_of_fault, component_of, header_of}
 use Rattle.component_package.proofs.First.{none_or, no_fault, none_first}
 use Rattle.component_package.proofs.Lists.{all_at}
 use Rattle.component_package.proofs.Laws.{faultless_bytes_spell}
-use Rattle.component_package.specs.Grammar.{IsComponent}
-use Rattle.component_package.specs.Manifest.{Placed, StoredRelease, Stores}
-use Rattle.component_package.specs.Store.{Missing, BadPackage, package_in, HoldsPackage, HasSet, is_same, is_missing, identity_fault, stored_fault, missing_at, bad_package_at, set_fault, held_slot, slots_for}
-use Rattle.component_package.specs.Sound.{IsNext}
+use Rattle.component_package.specs.packages.Grammar.{IsComponent}
+use Rattle.component_package.specs.packages.Manifest.{Placed, StoredRelease, Stores}
+use Rattle.component_package.specs.mote.Store.{Missing, BadPackage, package_in, HoldsPackage, HasSet, is_same, is_missing, identity_fault, stored_fault, missing_at, bad_package_at, set_fault, held_slot, slots_for}
+use Rattle.component_package.specs.mote.Sound.{IsNext}
 use Rattle.mote_laws.specs.Steps.{IsUnused}
 use Rattle.mote_laws.specs.Sets.{AreByteSlots, SetsAreFaultless, OtherSetsStay}
 use Rattle.mote_laws.proofs.Kept.{set_kept, components_kept}

@@ -7,8 +7,8 @@ use Rattle.std.proofs.lemmas.List.{length-map}
 use Rattle.std.proofs.lemmas.Option.{same_Some}
 use Rattle.std.proofs.lemmas.Bool.{eqb-true, eq-eqb, both_ways, or_parts, or_from, or_left, or_right, cases_Bool, ne_eqb, and_parts}
 use Rattle.component_package.specs.declared.manifest.Entry.{Entry}
-use Rattle.component_package.specs.Manifest.{Release, Placed, StoredRelease, IsManifestEntry, IsRelease, IsStored, AreDistinct}
-use Rattle.component_package.specs.Store.{is_same_entry, held_slot, is_taken, least_free, place_entry, placed_from}
+use Rattle.component_package.specs.packages.Manifest.{Release, Placed, StoredRelease, IsManifestEntry, IsRelease, IsStored, AreDistinct}
+use Rattle.component_package.specs.mote.Store.{is_same_entry, held_slot, is_taken, least_free, place_entry, placed_from}
 use Rattle.mote_laws.specs.Steps.{IsUnused}
 use Rattle.mote_laws.specs.Slots.{SlotIsFree, SlotsAreFound}
 

@@ -1,13 +1,13 @@
 -- The mote that the parts stand for after each step.
 use Rattle.std.proofs.Common.{not, ◌&&◌, ◌≡◌, ℕ, Bool, true, false, cond, List, Option, Some, None, is_some, slice_get, refl, sym as flip, ap, ◌∙◌, subst, arith}
 use Rattle.std.proofs.lemmas.Bool.{both_ways, and_from, not_from_false, ne_eqb}
-use Rattle.component_package.specs.Component.{Component}
-use Rattle.component_package.specs.Manifest.{StoredRelease, Placed, Stores}
-use Rattle.component_package.specs.Store.{components_of, held_slot}
-use Rattle.component_package.specs.Sides.{Parts, man, sym, rel, img, go_a, go_b, sel, is_on_b, chosen_side, other_side, is_pending}
-use Rattle.component_package.specs.Sound.{IsSound}
-use Rattle.component_package.specs.Machine.{Mote, Chosen, chosen_of, step}
-use Rattle.component_package.specs.Headline.{has_incoming, is_linked, StandsForIncoming, StandsFor, Chooses}
+use Rattle.component_package.specs.packages.Component.{Component}
+use Rattle.component_package.specs.packages.Manifest.{StoredRelease, Placed, Stores}
+use Rattle.component_package.specs.mote.Store.{components_of, held_slot}
+use Rattle.component_package.specs.mote.Sides.{Parts, man, sym, rel, img, go_a, go_b, sel, is_on_b, chosen_side, other_side, is_pending}
+use Rattle.component_package.specs.mote.Sound.{IsSound}
+use Rattle.component_package.specs.mote.Machine.{Mote, Chosen, chosen_of, step}
+use Rattle.component_package.specs.mote.Headline.{has_incoming, is_linked, StandsForIncoming, StandsFor, Chooses}
 use Rattle.mote_laws.specs.Steps.{with_gate, with_other_side, other_go, chosen_go, IsUnused}
 use Rattle.mote_laws.specs.Stands.{ChoiceIsTheMotes, OnlyCommitsChoose, RestingStepsStand, commit_frame, CutCommitIsWhole, IsOther, StandingStepsStand}
 use Rattle.mote_laws.proofs.Rows.{each_row}

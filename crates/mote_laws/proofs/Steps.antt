@@ -1,11 +1,11 @@
 -- Each step of the install journal keeps a mote sound.
 use Rattle.std.proofs.Common.{◌≡◌, ℕ, List, Bool, true, false, set, refl, sym as flip, ap, ◌∙◌, subst, arith}
-use Rattle.component_package.specs.Manifest.{StoredRelease, Stores}
-use Rattle.component_package.specs.Store.{components_of}
-use Rattle.component_package.specs.Sides.{Parts, man, sym, rel, img, sel, is_on_b, chosen_side, other_side, is_pending}
-use Rattle.component_package.specs.Sound.{IsSound, HoldsSet, HasNoCause, HasLateCause, HasTable, HasList, HasImage, IsNext}
-use Rattle.component_package.specs.Machine.{Chosen}
-use Rattle.component_package.specs.Headline.{Chooses}
+use Rattle.component_package.specs.packages.Manifest.{StoredRelease, Stores}
+use Rattle.component_package.specs.mote.Store.{components_of}
+use Rattle.component_package.specs.mote.Sides.{Parts, man, sym, rel, img, sel, is_on_b, chosen_side, other_side, is_pending}
+use Rattle.component_package.specs.mote.Sound.{IsSound, HoldsSet, HasNoCause, HasLateCause, HasTable, HasList, HasImage, IsNext}
+use Rattle.component_package.specs.mote.Machine.{Chosen}
+use Rattle.component_package.specs.mote.Headline.{Chooses}
 use Rattle.mote_laws.specs.Steps.{with_gate, with_other_side, other_go, chosen_go, ClosingKeeps, WritingKeeps, SlotWritingKeeps, OpeningKeeps, CommitIsWhole, SelectingKeeps, FinishingKeeps}
 use Rattle.mote_laws.proofs.Kept.{no_cause_kept, image_kept, components_kept}
 

@@ -1,15 +1,16 @@
 -- The words of soundness at a release that is known.
 use Rattle.std.proofs.Common.{◌≡◌, ◌↔◌, ℕ, ◌<◌, List, None, subst}
-use Rattle.component_package.specs.Component.{Component}
-use Rattle.component_package.specs.Areas.{MergedSymbol, Tells, Lists}
-use Rattle.component_package.specs.Pages.{IsTableOf, listed, IsPages}
-use Rattle.component_package.specs.Link.{link_cause}
-use Rattle.component_package.specs.Manifest.{Release, StoredRelease, IsRelease, Stores}
-use Rattle.component_package.specs.Store.{HasSet, components_of, slots_for}
-use Rattle.component_package.specs.Sides.{Parts, chosen_side}
-use Rattle.component_package.specs.Sound.{HoldsSet, HasNoCause, HasLateCause, HasTable, HasList, HasImage, IsNext, IsLate}
-use Rattle.component_package.specs.Machine.{Chosen}
-use Rattle.component_package.specs.Headline.{Chooses}
+use Rattle.component_package.specs.packages.Component.{Component}
+use Rattle.component_package.specs.link.Areas.{MergedSymbol, Tells, Lists}
+use Rattle.component_package.specs.link.Pages.{IsTableOf, listed, IsPages}
+use Rattle.component_package.specs.link.Link.{link_cause}
+use Rattle.component_package.specs.packages.Manifest.{Release, StoredRelease, IsRelease, Stores}
+use Rattle.component_package.specs.mote.Store.{HasSet, components_of, slots_for}
+use Rattle.component_package.specs.mote.Sides.{Parts, chosen_side}
+use Rattle.component_package.specs.mote.Sound.{HoldsSet, HasNoCause, HasLateCause, HasTable, HasList, HasImage, IsNext}
+use Rattle.component_package.specs.link.Link.{IsLate}
+use Rattle.component_package.specs.mote.Machine.{Chosen}
+use Rattle.component_package.specs.mote.Headline.{Chooses}
 use Rattle.mote_laws.specs.Words.{WordsSayWhatTheyMean, ImageIsTheChosens}
 use Rattle.component_package.proofs.ManifestLaws.{stored_release_is_one}
 

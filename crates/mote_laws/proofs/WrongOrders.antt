@@ -3,10 +3,10 @@ use Rattle.std.proofs.Common.{◌≡◌, ◌≢◌, ⊎_elim, ℕ, zero, suc, �
 use Rattle.std.proofs.lemmas.Bool.{cases_lt}
 use Rattle.std.proofs.lemmas.List.{get_or-set_same, get_or_past, length-set}
 use Rattle.component_package.specs.declared.manifest.Entry.{Entry}
-use Rattle.component_package.specs.Manifest.{Placed, StoredRelease}
-use Rattle.component_package.specs.Store.{package_in, HoldsPackage, slots_for}
-use Rattle.component_package.specs.Sides.{Parts, man, sym as sym_gate, rel, img, go_a, go_b, sel, chosen_side, other_side, is_pending}
-use Rattle.component_package.specs.Sound.{IsSound, IsNext}
+use Rattle.component_package.specs.packages.Manifest.{Placed, StoredRelease}
+use Rattle.component_package.specs.mote.Store.{package_in, HoldsPackage, slots_for}
+use Rattle.component_package.specs.mote.Sides.{Parts, man, sym as sym_gate, rel, img, go_a, go_b, sel, chosen_side, other_side, is_pending}
+use Rattle.component_package.specs.mote.Sound.{IsSound, IsNext}
 use Rattle.mote_laws.specs.Steps.{with_gate, with_other_side}
 use Rattle.mote_laws.specs.Runs.{ReleasesRise}
 

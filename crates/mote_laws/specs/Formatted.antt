@@ -1,9 +1,9 @@
 -- A board that was just formatted.
 use Rattle.std.specs.Prelude.{◌≡◌, ℕ, false, List, [], ◌∷◌, replicate, slice_index, None}
-use Rattle.component_package.specs.Sides.{parts_of}
-use Rattle.component_package.specs.Sound.{IsSound}
-use Rattle.component_package.specs.Machine.{Mote}
-use Rattle.component_package.specs.Headline.{StandsFor}
+use Rattle.component_package.specs.mote.Sides.{parts_of}
+use Rattle.component_package.specs.mote.Sound.{IsSound}
+use Rattle.component_package.specs.mote.Machine.{Mote}
+use Rattle.component_package.specs.mote.Headline.{StandsFor}
 
 -- every program page is 0xFF
 unfoldable pub blank_prog : List (List ℕ)

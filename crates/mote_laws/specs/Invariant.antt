@@ -1,15 +1,15 @@
 -- What holds of each mote that frames of bytes lead to: what boots is whole, and so is what is linked.
-use Rattle.std.specs.Prelude.{◌≡◌, ◌<◌, false, List, Option, Some, None}
+use Rattle.std.specs.Prelude.{ℕ, ◌≡◌, ◌<◌, false, List, Option, Some, None}
 use Rattle.std.specs.List.{AllByRecursion}
 use Rattle.avr_reloc.specs.Field.{AreBytes}
-use Rattle.component_package.specs.Link.{link_cause}
-use Rattle.component_package.specs.Manifest.{Release, StoredRelease, IsRelease, IsStored}
-use Rattle.component_package.specs.Store.{HasSet, components_of, slots_for}
-use Rattle.component_package.specs.Sides.{Parts}
-use Rattle.component_package.specs.Sound.{IsSound}
-use Rattle.component_package.specs.Headline.{StandsFor}
-use Rattle.component_package.specs.Frames.{Frame}
-use Rattle.component_package.specs.Machine.{Mote, chosen_of, commits, step, session_mote}
+use Rattle.component_package.specs.link.Link.{link_cause}
+use Rattle.component_package.specs.packages.Manifest.{Release, StoredRelease, IsRelease, IsStored}
+use Rattle.component_package.specs.mote.Store.{HasSet, components_of, slots_for}
+use Rattle.component_package.specs.mote.Sides.{Parts}
+use Rattle.component_package.specs.mote.Sound.{IsSound}
+use Rattle.component_package.specs.mote.Headline.{StandsFor}
+use Rattle.component_package.specs.mote.Frames.{Frame, Frames}
+use Rattle.component_package.specs.mote.Machine.{Mote, chosen_of, commits, step, session_mote}
 use Rattle.mote_laws.specs.Runs.{IsLinkedWhole}
 use Rattle.mote_laws.specs.Sets.{AreByteSlots}
 use Rattle.mote_laws.specs.Formatted.{formatted_mote}
@@ -31,6 +31,10 @@ pub record IsMote (s : Mote) : Type 0 where
 -- the payloads of frames are bytes
 abbrev pub AreByteFrames : List Frame → Type 0
 AreByteFrames fs = AllByRecursion (λ f. AreBytes f.payload) fs
+
+-- What is read from the line as frames are such frames.
+abbrev pub FramesAreByteFrames : Type 0
+FramesAreByteFrames = (bytes : List ℕ) (fs : List Frame) (rest : List ℕ) → Frames bytes fs rest → AreByteFrames fs
 
 -- A formatted mote is one, each step and each session keeps it so, and what boots changes where a commit comes to stand, and nowhere else.
 pub record MotesStayMotes : Type 0 where

@@ -8,3 +8,4 @@ pub mod Sets
 pub mod Stands
 pub mod Words
 pub mod Invariant
+pub mod Standing

@@ -1,9 +1,9 @@
 -- A mote's parts stand for one mote of the machine.
 use Rattle.std.specs.Prelude.{◌≡◌}
-use Rattle.component_package.specs.Sides.{Parts}
-use Rattle.component_package.specs.Sound.{IsSound}
-use Rattle.component_package.specs.Machine.{Mote}
-use Rattle.component_package.specs.Headline.{StandsFor}
+use Rattle.component_package.specs.mote.Sides.{Parts}
+use Rattle.component_package.specs.mote.Sound.{IsSound}
+use Rattle.component_package.specs.mote.Machine.{Mote}
+use Rattle.component_package.specs.mote.Headline.{StandsFor}
 use Rattle.mote_laws.specs.Runs.{IsRising}
 
 -- Parts stand for one mote at most, and sound ones for one, whose incoming release, if any, is above the current one.

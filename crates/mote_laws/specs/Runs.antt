@@ -3,11 +3,11 @@ use Rattle.std.specs.Prelude.{◌≡◌, ◌≢◌, ℕ, ◌<◌, Bool, true, fa
 use Rattle.std.specs.List.{AllByRecursion}
 use Rattle.component_package.specs.declared.answer.Answer.{Answer}
 use Rattle.component_package.specs.declared.answer.Answer.TheVariants as answers
-use Rattle.component_package.specs.Manifest.{StoredRelease}
-use Rattle.component_package.specs.Link.{link_cause}
-use Rattle.component_package.specs.Store.{set_fault, components_of}
-use Rattle.component_package.specs.Frames.{Frame}
-use Rattle.component_package.specs.Machine.{Mote, Chosen, step, boot_frame, session_mote, session_commits, session_answers, mote_from, answers_from, commits_from}
+use Rattle.component_package.specs.packages.Manifest.{StoredRelease}
+use Rattle.component_package.specs.link.Link.{link_cause}
+use Rattle.component_package.specs.mote.Store.{set_fault, components_of}
+use Rattle.component_package.specs.mote.Frames.{Frame}
+use Rattle.component_package.specs.mote.Machine.{Mote, Chosen, step, boot_frame, session_mote, session_commits, session_answers, mote_from, answers_from, commits_from}
 
 -- ---- refusals
 
@@ -37,7 +37,6 @@ is_refusal answers.NotLinked = true
 is_refusal (answers.Booted n) = false
 is_refusal (answers.Status c n s) = true
 is_refusal answers.Aborted = false
-is_refusal answers.NotYet = true
 is_refusal answers.Ended = true
 is_refusal answers.Unformatted = true
 
@@ -47,7 +46,6 @@ RefusalsChangeNothing = (s : Mote) (f : Frame) → is_refusal (step s f).answer 
 
 -- an answer that the machine gives: it serves every frame, whatever its type and its payload
 abbrev pub is_served : Answer → Bool
-is_served answers.NotYet = false
 is_served answers.Unformatted = false
 is_served a = true
 

@@ -2,10 +2,10 @@
 use Rattle.std.specs.Prelude.{◌≡◌, ℕ, List, [], slice_get, slice_index_or, slice_set, Some, None}
 use Rattle.std.specs.List.{AllByRecursion}
 use Rattle.avr_reloc.specs.Field.{AreBytes}
-use Rattle.component_package.specs.Grammar.{IsComponent}
-use Rattle.component_package.specs.Manifest.{Placed, StoredRelease, Stores}
-use Rattle.component_package.specs.Store.{HasSet, components_of, set_fault, held_slot}
-use Rattle.component_package.specs.Sound.{IsNext}
+use Rattle.component_package.specs.packages.Grammar.{IsComponent}
+use Rattle.component_package.specs.packages.Manifest.{Placed, StoredRelease, Stores}
+use Rattle.component_package.specs.mote.Store.{HasSet, components_of, set_fault, held_slot}
+use Rattle.component_package.specs.mote.Sound.{IsNext}
 use Rattle.mote_laws.specs.Steps.{IsUnused}
 
 -- whatever is in the slots is bytes

@@ -1,7 +1,7 @@
 -- Slots for the entries of a new release over the current one.
 use Rattle.std.specs.Prelude.{◌≡◌, ℕ, ◌<◌, false, List, length, slice_get, Some, None}
-use Rattle.component_package.specs.Manifest.{Release, Placed, StoredRelease, IsRelease, IsStored, released}
-use Rattle.component_package.specs.Store.{held_slot, is_taken, least_free, slots_for}
+use Rattle.component_package.specs.packages.Manifest.{Release, Placed, StoredRelease, IsRelease, IsStored, released}
+use Rattle.component_package.specs.mote.Store.{held_slot, is_taken, least_free, slots_for}
 use Rattle.mote_laws.specs.Steps.{IsUnused}
 
 -- A slot is free where fewer than 32 are taken, whichever they are.

@@ -1,11 +1,11 @@
 -- Which mote of the machine the parts stand for after each step of the journal, and what boots.
 use Rattle.std.specs.Prelude.{◌≡◌, ◌≢◌, ℕ, Bool, true, false, List, [], if◌then◌else◌, Some, None}
-use Rattle.component_package.specs.Manifest.{StoredRelease, Stores}
-use Rattle.component_package.specs.Sides.{Parts, man, sym, rel, img, go_a, go_b, sel, is_on_b, other_side, is_pending}
-use Rattle.component_package.specs.Sound.{IsSound}
-use Rattle.component_package.specs.Frames.{Frame}
-use Rattle.component_package.specs.Machine.{Mote, Chosen, chosen_of, commits, step}
-use Rattle.component_package.specs.Headline.{StandsFor, Chooses}
+use Rattle.component_package.specs.packages.Manifest.{StoredRelease, Stores}
+use Rattle.component_package.specs.mote.Sides.{Parts, man, sym, rel, img, go_a, go_b, sel, is_on_b, other_side, is_pending}
+use Rattle.component_package.specs.mote.Sound.{IsSound}
+use Rattle.component_package.specs.mote.Frames.{Frame}
+use Rattle.component_package.specs.mote.Machine.{Mote, Chosen, chosen_of, commits, step}
+use Rattle.component_package.specs.mote.Headline.{StandsFor, Chooses}
 use Rattle.mote_laws.specs.Steps.{with_gate, with_other_side, other_go, chosen_go}
 
 -- ---- what is chosen

@@ -1,11 +1,11 @@
 -- Each step of the install journal keeps a mote sound, whatever bytes a cut leaves in the page that it programs.
 use Rattle.std.specs.Prelude.{◌≡◌, ℕ, ◌==◌, Bool, true, false, List, map, slice_set, if◌then◌else◌}
-use Rattle.component_package.specs.Manifest.{StoredRelease, Stores}
-use Rattle.component_package.specs.Store.{components_of, is_taken}
-use Rattle.component_package.specs.Sides.{Parts, man, sym, rel, img, go_a, go_b, sel, is_on_b, chosen_side, other_side, is_pending}
-use Rattle.component_package.specs.Sound.{HoldsSet, HasNoCause, HasLateCause, HasTable, HasList, HasImage, IsNext, IsSound}
-use Rattle.component_package.specs.Machine.{Chosen}
-use Rattle.component_package.specs.Headline.{Chooses}
+use Rattle.component_package.specs.packages.Manifest.{StoredRelease, Stores}
+use Rattle.component_package.specs.mote.Store.{components_of, is_taken}
+use Rattle.component_package.specs.mote.Sides.{Parts, man, sym, rel, img, go_a, go_b, sel, is_on_b, chosen_side, other_side, is_pending}
+use Rattle.component_package.specs.mote.Sound.{HoldsSet, HasNoCause, HasLateCause, HasTable, HasList, HasImage, IsNext, IsSound}
+use Rattle.component_package.specs.mote.Machine.{Chosen}
+use Rattle.component_package.specs.mote.Headline.{Chooses}
 
 -- ---- parts after a program
 

@@ -1,14 +1,15 @@
 -- What the words of soundness say of a side whose release is known, and what boots is the image.
 use Rattle.std.specs.Prelude.{◌≡◌, ◌↔◌, ℕ, ◌<◌, true, false, List, None}
-use Rattle.component_package.specs.Areas.{MergedSymbol, Tells, Lists}
-use Rattle.component_package.specs.Pages.{IsTableOf, listed, IsPages}
-use Rattle.component_package.specs.Link.{link_cause}
-use Rattle.component_package.specs.Manifest.{Release, StoredRelease, IsRelease, Stores}
-use Rattle.component_package.specs.Store.{HasSet, components_of, slots_for}
-use Rattle.component_package.specs.Sides.{Parts, is_pending}
-use Rattle.component_package.specs.Sound.{HoldsSet, HasNoCause, HasLateCause, HasTable, HasList, HasImage, IsNext, IsLate, IsSound}
-use Rattle.component_package.specs.Machine.{Chosen}
-use Rattle.component_package.specs.Headline.{Chooses}
+use Rattle.component_package.specs.link.Areas.{MergedSymbol, Tells, Lists}
+use Rattle.component_package.specs.link.Pages.{IsTableOf, listed, IsPages}
+use Rattle.component_package.specs.link.Link.{link_cause}
+use Rattle.component_package.specs.packages.Manifest.{Release, StoredRelease, IsRelease, Stores}
+use Rattle.component_package.specs.mote.Store.{HasSet, components_of, slots_for}
+use Rattle.component_package.specs.mote.Sides.{Parts, is_pending}
+use Rattle.component_package.specs.mote.Sound.{HoldsSet, HasNoCause, HasLateCause, HasTable, HasList, HasImage, IsNext, IsSound}
+use Rattle.component_package.specs.link.Link.{IsLate}
+use Rattle.component_package.specs.mote.Machine.{Chosen}
+use Rattle.component_package.specs.mote.Headline.{Chooses}
 
 -- Where a side stores the release m, each word says what it says of m.
 pub record WordsSay (slots : List (List ℕ)) (side : List ℕ) (m : StoredRelease) : Type 0 where

@@ -12,7 +12,8 @@ ghost use Rattle.mote_laws.specs.Formatted.{FormattedIsSound};
 ghost use Rattle.mote_laws.specs.Sets.{SetsAreFaultless, OtherSetsStay};
 ghost use Rattle.mote_laws.specs.Stands.{ChoiceIsTheMotes, OnlyCommitsChoose, RestingStepsStand, CutCommitIsWhole, StandingStepsStand};
 ghost use Rattle.mote_laws.specs.Words.{WordsSayWhatTheyMean, ImageIsTheChosens};
-ghost use Rattle.mote_laws.specs.Invariant.{MotesStayMotes, SoundIsAMote};
+ghost use Rattle.mote_laws.specs.Standing.{SoundPartsTell, GatesStay};
+ghost use Rattle.mote_laws.specs.Invariant.{FramesAreByteFrames, MotesStayMotes, SoundIsAMote};
 
 /// Closing Img, Rel, Sym and Man, in this order, keeps a mote sound and what it chooses.
 pub fn closing_keeps()
@@ -159,6 +160,11 @@ pub fn image_is_the_chosens()
     ensures { ImageIsTheChosens }
 {}
 
+/// The payloads of the frames that a line gives are bytes.
+pub fn frames_are_byte_frames()
+    ensures { FramesAreByteFrames }
+{}
+
 /// Whatever frames of bytes come, the slots hold the set that boots, nothing refuses it, and it changes where a commit comes to stand alone.
 pub fn motes_stay_motes()
     ensures { MotesStayMotes }
@@ -167,4 +173,14 @@ pub fn motes_stay_motes()
 /// What sound parts stand for is such a mote, where their slots hold bytes.
 pub fn sound_is_a_mote()
     ensures { SoundIsAMote }
+{}
+
+/// Sound parts aren't unformatted, and what is read of their gates and sides is what their mote holds.
+pub fn sound_parts_tell()
+    ensures { SoundPartsTell }
+{}
+
+/// A gate that is set to what it is changes nothing.
+pub fn gates_stay()
+    ensures { GatesStay }
 {}

@@ -1,0 +1,7 @@
+pub mod Lines
+pub mod Injective
+pub mod History
+pub mod Kept
+pub mod Sessions
+pub mod Turns
+pub mod Chains
