@@ -1,7 +1,7 @@
 -- The first of the five kinds of causes.
 use Rattle.std.proofs.Common.{◌≡◌, List, Option, Some, None, refl}
-use Rattle.component_package.specs.Component.{Component}
-use Rattle.component_package.specs.Link.{Cause, link_cause, rooms_of, room_cause, symbols_cause, relocations_cause, duplicate_cause, sites_cause}
+use Rattle.component_package.specs.packages.Component.{Component}
+use Rattle.component_package.specs.link.Link.{Cause, link_cause, rooms_of, room_cause, symbols_cause, relocations_cause, duplicate_cause, sites_cause}
 use Rattle.full_linker.specs.declared.fault.LinkFault.{LinkFault}
 use Rattle.full_linker.specs.declared.fault.LinkFault.TheVariants as faults
 use Rattle.full_linker.specs.Faults.{Says, Finds}

@@ -1,12 +1,14 @@
--- Slots and counts while the components of a set are put in.
-use Rattle.std.proofs.Common.{◌≡◌, ℕ, ◌+◌, ◌*◌, ◌≤◌, List, ◌++◌, length, take, map, Some, sym, ap, subst, ◌∙◌, arith}
+-- Slots while the components of a set are put in.
+use Rattle.std.proofs.Common.{◌≡◌, ℕ, ◌+◌, ◌*◌, ◌≤◌, List, ◌++◌, length, take, map, Some, sym, ap, subst, arith}
 use Rattle.std.specs.Prelude.{slice_get}
 use Rattle.std.specs.List.{flat_map, enumerate_from}
 use Rattle.component_package.specs.declared.part.Export.{Export}
-use Rattle.component_package.specs.Component.{Component}
-use Rattle.component_package.specs.Link.{exports_of}
+use Rattle.component_package.specs.packages.Component.{Component}
+use Rattle.component_package.specs.link.Link.{exports_of}
 use Rattle.full_linker.specs.declared.symbols.Slot.{Slot}
-use Rattle.full_linker.specs.Slots.{AreSlots, different_symbols}
+use Rattle.full_linker.specs.Slots.{AreSlots}
+use Rattle.full_linker.proofs.Added.{empty_slots}
+use Rattle.std.specs.BTreeMap.{BTreeMap, btree_map_len, IsEmpty}
 use Rattle.full_linker.proofs.Numbered.{flat_numbered_more, numbered_all}
 
 -- the exports of a component with its place
@@ -17,22 +19,23 @@ exports_at c = map (λ e. (c.0, e)) c.1.exports
 abbrev pub first_exports : List Component → ℕ → List (ℕ × Export)
 first_exports set k = flat_map exports_at (take k (enumerate_from 0 set))
 
--- the exports of the first k components are in the slots, with so many symbols
-pub record AreCollected (set : List Component) (k : ℕ) (now : List Slot) (count : ℕ) : Type 0 where
+-- the exports of the first k components are in the slots
+pub record AreCollected (set : List Component) (k : ℕ) (now : BTreeMap ℕ Slot) : Type 0 where
   pub slots : AreSlots (first_exports set k) now
-  pub counted : count ≡ different_symbols (first_exports set k)
-  pub small : count ≤ 65535 * k
+  pub small : btree_map_len now ≤ 65535 * k
+
+-- before the first component
+pub collected_none : (set : List Component) (slots : BTreeMap ℕ Slot) → IsEmpty slots → AreCollected set 0 slots
+collected_none set slots empty = record { slots = empty_slots slots empty; small = omega (arith, ap length empty) }
 
 -- the next component is put in
-pub collected_more : (set : List Component) (k : ℕ) (slots next : List Slot) (count n : ℕ) (c : Component) → AreCollected set k slots count → slice_get set k ≡ Some c
-    → ((xs : List (ℕ × Export)) → AreSlots xs slots → AreSlots (xs ++ map (λ e. (k, e)) c.exports) next)
-    → ((xs : List (ℕ × Export)) → AreSlots xs slots → different_symbols (xs ++ map (λ e. (k, e)) c.exports) ≡ different_symbols xs + n) → n ≤ 65535
-    → AreCollected set (k + 1) next (count + n)
-collected_more set k slots next count n c are here after counts small =
+pub collected_more : (set : List Component) (k : ℕ) (slots next : BTreeMap ℕ Slot) (c : Component) → AreCollected set k slots → slice_get set k ≡ Some c
+    → ((xs : List (ℕ × Export)) → AreSlots xs slots → AreSlots (xs ++ map (λ e. (k, e)) c.exports) next) → btree_map_len next ≤ btree_map_len slots + 65535
+    → AreCollected set (k + 1) next
+collected_more set k slots next c are here after small =
     let more = flat_numbered_more exports_at set k c here in
     record {
       slots = subst (λ xs. AreSlots xs next) (sym more) (after (first_exports set k) are.slots);
-      counted = sym (ap different_symbols more ∙ omega (arith, counts (first_exports set k) are.slots, are.counted));
       small = omega (arith, are.small, small);
     }
 

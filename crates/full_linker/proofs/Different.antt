@@ -3,7 +3,7 @@ use Rattle.std.proofs.Common.{◌≡◌, ℕ, ◌+◌, ◌-◌, ◌<◌, ◌≤�
 use Rattle.std.specs.Prelude.{◌==◌}
 use Rattle.std.specs.List.{list_any}
 use Rattle.std.proofs.lemmas.List.{take_all, drop_all}
-use Rattle.component_package.specs.Manifest.{AreDistinct}
+use Rattle.component_package.specs.packages.Manifest.{AreDistinct}
 
 -- those from i on differ exactly where all do
 pub record AreChecked (xs : List ℕ) (i : ℕ) : Type 0 where

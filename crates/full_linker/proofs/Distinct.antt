@@ -3,7 +3,7 @@ use Rattle.std.proofs.Common.{◌≡◌, ℕ, suc, ◌+◌, inl, inr, Bool, true
 use Rattle.std.specs.Prelude.{◌||◌}
 use Rattle.std.specs.List.{list_any}
 use Rattle.std.proofs.lemmas.Bool.{cases_Bool, eqb-true}
-use Rattle.component_package.specs.Link.{distinct}
+use Rattle.component_package.specs.link.Link.{distinct}
 use Rattle.full_linker.proofs.Basics.{self_equal}
 
 -- a symbol is in a list

@@ -9,10 +9,10 @@ use Rattle.std.proofs.lemmas.Option.{slice_get_within, slice_get-get_or}
 use Rattle.avr_reloc.specs.declared.fixup.Fixup.{Fixup}
 use Rattle.avr_reloc.specs.Field.{IsNear}
 use Rattle.component_package.specs.declared.part.Site.{Site}
-use Rattle.component_package.specs.Component.{Component}
-use Rattle.component_package.specs.Grammar.{IsComponent}
+use Rattle.component_package.specs.packages.Component.{Component}
+use Rattle.component_package.specs.packages.Grammar.{IsComponent}
 use Rattle.link_laws.proofs.Room.{IsSite, all_sites}
-use Rattle.component_package.specs.Link.{Cause, first_cause, site_cause, sites_of, fixup_of}
+use Rattle.component_package.specs.link.Link.{Cause, first_cause, site_cause, sites_of, fixup_of}
 
 -- the first n relocations have no fault, and these are their fields
 pub record AreDone (set : List Component) (sites : List Site) (n : ℕ) (fixups : List Fixup) : Type 0 where

@@ -1,15 +1,22 @@
 -- The least symbol with two exporters that are not weak.
 use Rattle.std.proofs.Common.{◌≡◌, ℕ, ◌<◌, ◌≤◌, ◌^◌, ◌⊎◌, inl, inr, Bool, true, false, eqb, List, [], ◌∷◌, length, map, min, Option, Some, None, refl, sym, ap, subst, ◌∙◌, arith}
 use Rattle.std.specs.Prelude.{nat_le}
-use Rattle.std.specs.Option.{option_and_then}
+use Rattle.std.specs.Option.{option_and_then, option_map, option_or}
+use Rattle.std.specs.Ordering.{nat_cmp, is_eq}
+use Rattle.std.specs.declared.cmp.Ordering.TheVariants.{Less}
+use Rattle.std.specs.Map.{lookup, keys_of}
+use Rattle.std.specs.BTreeMap.{BTreeMap, get, is_at, IsOrdered}
+use Rattle.std.specs.List.Sorted.{IsStrictlySortedBy}
 use Rattle.std.specs.List.{list_any, find, filter, fold, AllByRecursion}
 use Rattle.std.proofs.lemmas.Bool.{cases_Bool, cases_lt, eqb-true, or_cases}
 use Rattle.component_package.specs.declared.part.Export.{Export}
-use Rattle.component_package.specs.Component.{Component}
-use Rattle.component_package.specs.Grammar.{IsComponent}
-use Rattle.component_package.specs.Link.{Duplicate, exports_of, symbols_of, is_strong_export_of, strong_exporters, least_of, first_two, duplicate_cause}
-use Rattle.full_linker.specs.Slots.{second_of, slot_of}
-use Rattle.full_linker.proofs.Slots.{find_some_filter, none_found}
+use Rattle.component_package.specs.packages.Component.{Component}
+use Rattle.component_package.specs.packages.Grammar.{IsComponent}
+use Rattle.component_package.specs.link.Link.{Cause, Duplicate, first_cause, exports_of, symbols_of, is_strong_export_of, strong_exporters, least_of, first_two, duplicate_cause}
+use Rattle.full_linker.specs.declared.symbols.Slot.{Slot}
+use Rattle.full_linker.specs.Slots.{second_of, slot_of, twice_of, AreSlots}
+use Rattle.full_linker.proofs.Basics.{same_at, at_same, below_at}
+use Rattle.full_linker.proofs.Slots.{find_some_filter, none_found, kept_is, none_kept}
 use Rattle.link_laws.proofs.Table.{HasSymbol, exports_have_symbols}
 
 -- ---- The least number
@@ -62,9 +69,9 @@ low_kept q s below (t ∷ ts) =
     ]
 
 -- where nothing passes, nothing is kept
-none_kept : (q : ℕ → Bool) (n : ℕ) → ((t : ℕ) → t < n → q t ≡ false) → (ss : List ℕ) → AllByRecursion (λ t. t < n) ss → filter q ss ≡ []
-none_kept q n none [] small = refl
-none_kept q n none (t ∷ ts) small = rw (none t small.0) (none_kept q n none ts small.1)
+none_left : (q : ℕ → Bool) (n : ℕ) → ((t : ℕ) → t < n → q t ≡ false) → (ss : List ℕ) → AllByRecursion (λ t. t < n) ss → filter q ss ≡ []
+none_left q n none [] small = refl
+none_left q n none (t ∷ ts) small = rw (none t small.0) (none_left q n none ts small.1)
 
 -- ---- Exporters
 
@@ -123,13 +130,143 @@ symbols_small (x ∷ xs) all = (all.0.high, symbols_small xs all.1)
 pub no_duplicate : (set : List Component) → AllByRecursion IsComponent set → ((t : ℕ) → t < 2 ^ 16 → second_at set t ≡ None) → duplicate_cause set ≡ None
 no_duplicate set components none =
     ap (λ (ss : List ℕ). option_and_then (λ t. first_two t (strong_exporters set t)) (least_of ss))
-    (none_kept (has_two set) (2 ^ 16) (λ t lt. no_second (strong_exporters set t) (none t lt)) (symbols_of set) (symbols_small (exports_of set) (exports_have_symbols set components)))
+    (none_left (has_two set) (2 ^ 16) (λ t lt. no_second (strong_exporters set t) (none t lt)) (symbols_of set) (symbols_small (exports_of set) (exports_have_symbols set components)))
 
 -- without a first there is no second
 pub no_strong : (set : List Component) (t : ℕ) → (slot_of (exports_of set) t).strong ≡ None → second_at set t ≡ None
 no_strong set t e = ap (λ xs. second_of (map (λ x. x.0) xs)) (none_found (is_strong_export_of t) (exports_of set) e)
 
--- what is never some is none
-pub none_of : {X : Type 0} (o : Option X) → ((x : X) → o ≡ Some x → ⊥) → o ≡ None
-none_of None h = refl
-none_of (Some x) h = absurd (h x refl)
+-- the components of a first and of a second
+abbrev both_of : Option (ℕ × Export) → Option ℕ → Option (ℕ × ℕ)
+both_of strong second = option_and_then (λ x. option_map (λ j. (x.0, j)) second) strong
+
+-- without a first or without a second
+twice_is : (strong : Option (ℕ × Export)) (second : Option ℕ) → both_of strong second ≡ None → (strong ≡ None → second ≡ None) → second ≡ None
+twice_is None second e h = h refl
+twice_is (Some x) None e h = refl
+twice_is (Some x) (Some j) e h = absurd cc
+
+-- a slot without two exports that are not weak has no second
+no_twice : (set : List Component) (t : ℕ) → twice_of (slot_of (exports_of set) t) ≡ None → second_at set t ≡ None
+no_twice set t e = twice_is (slot_of (exports_of set) t).strong (slot_of (exports_of set) t).second e (no_strong set t)
+
+-- ---- The entries of a map, in order
+
+-- two exports that are not weak, as a cause
+abbrev pub twice_at : ℕ × Slot → Option Cause
+twice_at e = option_map (λ p. Duplicate e.0 p.0 p.1) (twice_of e.1)
+
+-- nothing comes of nothing
+mapped_none : {X Y : Type 0} (f : X → Y) (o : Option X) → option_map f o ≡ None → o ≡ None
+mapped_none f None e = refl
+mapped_none f (Some x) e = absurd cc
+
+-- neither of two
+or_none : {X : Type 0} (a b : Option X) → option_or a b ≡ None → (a ≡ None) × (b ≡ None)
+or_none None b e = (refl, e)
+or_none (Some x) b e = absurd cc
+
+-- an entry without two is passed over
+pub pass_over : (x : ℕ × Slot) (es : List (ℕ × Slot)) → twice_of x.1 ≡ None → first_cause twice_at (x ∷ es) ≡ first_cause twice_at es
+pass_over x es e = ap (λ o. option_or (option_map (λ p. Duplicate x.0 p.0 p.1) o) (first_cause twice_at es)) e
+
+-- one with two is the cause
+pub stop_at : (x : ℕ × Slot) (es : List (ℕ × Slot)) (p : ℕ × ℕ) → twice_of x.1 ≡ Some p → first_cause twice_at (x ∷ es) ≡ Some (Duplicate x.0 p.0 p.1)
+stop_at x es p e = ap (λ o. option_or (option_map (λ q. Duplicate x.0 q.0 q.1) o) (first_cause twice_at es)) e
+
+-- an entry that is found in entries without a cause has none
+found_none : (es : List (ℕ × Slot)) → first_cause twice_at es ≡ None → (t : ℕ) (z : Slot) → lookup (is_at (nat_cmp t)) es ≡ Some z → twice_of z ≡ None
+found_none [] none t z e = absurd cc
+found_none (x ∷ es) none t z e =
+    let both = or_none (twice_at x) (first_cause twice_at es) none in
+    elim (cases_Bool (is_eq (nat_cmp t x.0))) [
+      | inl hit ↦ let same : x.1 ≡ z = (let f = rw hit at e in cc) in subst (λ (y : Slot). twice_of y ≡ None) same (mapped_none (λ p. Duplicate x.0 p.0 p.1) (twice_of x.1) both.0)
+      | inr miss ↦ found_none es both.1 t z (rw miss at e)
+    ]
+
+-- what is found behind a key is above it
+found_above : (x t : ℕ) (z : Slot) (es : List (ℕ × Slot)) → AllByRecursion (λ y. nat_cmp x y ≡ Less) (keys_of es) → lookup (is_at (nat_cmp t)) es ≡ Some z → x < t
+found_above x t z [] all e = absurd cc
+found_above x t z (y ∷ es) all e =
+    elim (cases_Bool (is_eq (nat_cmp t y.0))) [
+      | inl hit ↦ subst (λ n. x < n) (sym (at_same t y.0 hit)) (below_at x y.0 all.0)
+      | inr miss ↦ found_above x t z es all.1 (rw miss at e)
+    ]
+
+-- the least symbol with a cause
+record IsFirst (es : List (ℕ × Slot)) (c : Cause) : Type 0 where
+  symbol : ℕ
+  slot : Slot
+  here : lookup (is_at (nat_cmp symbol)) es ≡ Some slot
+  cause : twice_at (symbol, slot) ≡ Some c
+  before : (t : ℕ) → t < symbol → (z : Slot) → lookup (is_at (nat_cmp t)) es ≡ Some z → twice_of z ≡ None
+
+-- what is found in entries, by the first of them
+first_of_entries : (x : ℕ × Slot) (es : List (ℕ × Slot)) (c : Cause) → AllByRecursion (λ y. nat_cmp x.0 y ≡ Less) (keys_of es) → (o : Option Cause) → twice_at x ≡ o
+    → option_or o (first_cause twice_at es) ≡ Some c → (first_cause twice_at es ≡ Some c → IsFirst es c) → IsFirst (x ∷ es) c
+first_of_entries x es c above (Some d) is e rest = record {
+  symbol = x.0;
+  slot = x.1;
+  here = rw (same_at x.0) refl;
+  cause = is ∙ e;
+  before = λ t lt z found. elim (cases_Bool (is_eq (nat_cmp t x.0))) [
+    | inl hit ↦ absurd (omega (arith, lt, at_same t x.0 hit))
+    | inr miss ↦ absurd (omega (arith, lt, found_above x.0 t z es above (rw miss at found)))
+  ];
+}
+first_of_entries x es c above None is e rest =
+    let r = rest e in
+    record {
+      symbol = r.symbol;
+      slot = r.slot;
+      here = elim (cases_Bool (is_eq (nat_cmp r.symbol x.0))) [
+        | inl hit ↦ absurd (omega (arith, at_same r.symbol x.0 hit, found_above x.0 r.symbol r.slot es above r.here))
+        | inr miss ↦ rw miss r.here
+      ];
+      cause = r.cause;
+      before = λ t lt z found. elim (cases_Bool (is_eq (nat_cmp t x.0))) [
+        | inl hit ↦ let same : x.1 ≡ z = (let f = rw hit at found in cc) in subst (λ (y : Slot). twice_of y ≡ None) same (mapped_none (λ p. Duplicate x.0 p.0 p.1) (twice_of x.1) is)
+        | inr miss ↦ r.before t lt z (rw miss at found)
+      ];
+    }
+
+-- the first cause of entries in order is that of the least symbol
+first_is : (es : List (ℕ × Slot)) (c : Cause) → IsStrictlySortedBy nat_cmp (keys_of es) → first_cause twice_at es ≡ Some c → IsFirst es c
+unfolding IsStrictlySortedBy
+first_is [] c sorted e = absurd cc
+first_is (x ∷ es) c sorted e = first_of_entries x es c sorted.0 (twice_at x) refl e (first_is es c sorted.1)
+
+-- ---- The cause
+
+-- nothing or something
+nothing_or : {X : Type 0} (o : Option X) → (o ≡ None) ⊎ ((x : X) × (o ≡ Some x))
+nothing_or None = inl refl
+nothing_or (Some x) = inr (x, refl)
+
+-- nothing twice in the map, nothing twice in the set
+second_none : (set : List Component) (slots : BTreeMap ℕ Slot) → AreSlots (exports_of set) slots → (t : ℕ) → ((z : Slot) → get nat_cmp slots t ≡ Some z → twice_of z ≡ None) → second_at set t ≡ None
+second_none set slots are t none =
+    elim (nothing_or (get nat_cmp slots t)) [
+      | inl gone ↦ sym (ap (λ (z : Slot). z.second) (none_kept (exports_of set) slots t are gone))
+      | inr found ↦ no_twice set t (subst (λ (z : Slot). twice_of z ≡ None) (kept_is (exports_of set) slots t found.0 are found.1) (none found.0 found.1))
+    ]
+
+-- the cause of two exports
+twice_parts : (s : ℕ) (strong : Option (ℕ × Export)) (second : Option ℕ) (c : Cause) → option_map (λ p. Duplicate s p.0 p.1) (both_of strong second) ≡ Some c
+    → (x : ℕ × Export) × (j : ℕ) × (strong ≡ Some x) × (second ≡ Some j) × (Duplicate s x.0 j ≡ c)
+twice_parts s None second c e = absurd cc
+twice_parts s (Some x) None c e = absurd cc
+twice_parts s (Some x) (Some j) c e = (x, j, refl, refl, (let same : Duplicate s x.0 j ≡ c = cc in same))
+
+-- the first cause of the entries is the cause of the set
+pub first_duplicate : (set : List Component) (slots : BTreeMap ℕ Slot) (c : Cause) → AreSlots (exports_of set) slots → IsOrdered nat_cmp slots → first_cause twice_at slots.entries ≡ Some c → duplicate_cause set ≡ Some c
+first_duplicate set slots c are ordered e =
+    let r = first_is slots.entries c ordered e in
+    let is = kept_is (exports_of set) slots r.symbol r.slot are r.here in
+    let p = twice_parts r.symbol r.slot.strong r.slot.second c r.cause in
+    duplicate_at set r.symbol p.1 p.0 (λ t lt. second_none set slots are t (r.before t lt)) (ap (λ (z : Slot). z.strong) (sym is) ∙ p.2) (ap (λ (z : Slot). z.second) (sym is) ∙ p.3)
+    ∙ ap Some p.4
+
+-- and without one there is none
+pub entries_none : (set : List Component) (slots : BTreeMap ℕ Slot) → AllByRecursion IsComponent set → AreSlots (exports_of set) slots → first_cause twice_at slots.entries ≡ None → duplicate_cause set ≡ None
+entries_none set slots components are e = no_duplicate set components (λ t lt. second_none set slots are t (found_none slots.entries e t))

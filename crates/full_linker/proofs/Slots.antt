@@ -1,22 +1,25 @@
 -- One export more in its slot.
 use Rattle.std.proofs.Common.{◌≡◌, ℕ, inl, inr, Bool, true, false, eqb, List, [], ◌∷◌, ◌++◌, map, Option, Some, None, refl, sym, ap, ◌∙◌}
-use Rattle.std.specs.Option.{option_or}
+use Rattle.std.specs.Option.{option_or, option_map}
 use Rattle.std.specs.List.{find, filter}
 use Rattle.std.proofs.lemmas.Bool.{cases_Bool}
 use Rattle.std.proofs.lemmas.List.{append-nil, map-append}
 use Rattle.std.proofs.lemmas.List.Folds.{find-append}
 use Rattle.std.proofs.lemmas.List.Elements.{filter-append}
 use Rattle.component_package.specs.declared.part.Export.{Export}
-use Rattle.component_package.specs.Link.{is_strong_export_of}
+use Rattle.component_package.specs.link.Link.{is_strong_export_of}
 use Rattle.full_linker.proofs.Basics.{self_equal}
-use Rattle.full_linker.specs.Slots.{second_of, slot_of}
+use Rattle.std.specs.Ordering.{nat_cmp}
+use Rattle.std.specs.BTreeMap.{BTreeMap, get}
+use Rattle.full_linker.specs.declared.symbols.Slot.{Slot}
+use Rattle.full_linker.specs.Slots.{second_of, slot_of, AreSlots}
 
 -- an export of this symbol
 abbrev pub is_export_of : ℕ → (ℕ × Export) → Bool
 is_export_of s x = eqb x.1.symbol s
 
 -- what one element more changes of what is found
-find_hit : {X : Type 0} (p : X → Bool) (xs : List X) (x : X) → p x ≡ true → find p (xs ++ x ∷ []) ≡ option_or (find p xs) (Some x)
+pub find_hit : {X : Type 0} (p : X → Bool) (xs : List X) (x : X) → p x ≡ true → find p (xs ++ x ∷ []) ≡ option_or (find p xs) (Some x)
 find_hit p xs x e = find-append p xs (x ∷ []) ∙ rw e refl
 
 -- something or nothing
@@ -25,7 +28,7 @@ option_or_none None = refl
 option_or_none (Some x) = refl
 
 -- an element that fails the test changes nothing
-find_miss : {X : Type 0} (p : X → Bool) (xs : List X) (x : X) → p x ≡ false → find p (xs ++ x ∷ []) ≡ find p xs
+pub find_miss : {X : Type 0} (p : X → Bool) (xs : List X) (x : X) → p x ≡ false → find p (xs ++ x ∷ []) ≡ find p xs
 find_miss p xs x e = find-append p xs (x ∷ []) ∙ rw e (option_or_none (find p xs))
 
 -- an element that fails the test is not kept
@@ -95,3 +98,27 @@ slot_second xs x y s e w some =
     ∙ ap second_of (map-append (λ (z : ℕ × Export). z.0) (y ∷ starts.rest) (x ∷ [])) ∙ second_push y.0 x.0 (map (λ z. z.0) starts.rest)
     ∙ ap (λ zs. option_or (second_of (map (λ z. z.0) zs)) (Some x.0)) (sym starts.is) in
     rw (find_hit (is_export_of s) xs x here, find_hit (is_strong_export_of s) xs x strong, second, some) refl
+
+-- where no export of a symbol is found, its slot is empty
+pub no_slot : (s : ℕ) (xs : List (ℕ × Export)) → find (is_export_of s) xs ≡ None → slot_of xs s ≡ record { first = None; strong = None; second = None }
+no_slot s [] e = refl
+no_slot s (x ∷ xs) e = elim (cases_Bool (eqb x.1.symbol s)) [ inl hit ↦ absurd (let f = rw hit at e in cc) | inr miss ↦ rw miss (no_slot s xs (rw miss at e)) ]
+
+-- what is made of something
+made_of : {X Y : Type 0} (o : Option X) (y z : Y) → option_map (λ _. y) o ≡ Some z → z ≡ y
+made_of None y z e = absurd cc
+made_of (Some x) y z e = let same : y ≡ z = cc in sym same
+
+-- nothing is made of nothing alone
+made_of_none : {X Y : Type 0} (o : Option X) (y : Y) → option_map (λ _. y) o ≡ None → o ≡ None
+made_of_none None y e = refl
+made_of_none (Some x) y e = absurd cc
+
+-- a slot that is kept is that of its symbol
+pub kept_is : (xs : List (ℕ × Export)) (slots : BTreeMap ℕ Slot) (s : ℕ) (slot : Slot) → AreSlots xs slots → get nat_cmp slots s ≡ Some slot → slot ≡ slot_of xs s
+kept_is xs slots s slot are e = made_of (find (is_export_of s) xs) (slot_of xs s) slot (sym (are.each s) ∙ e)
+
+-- where none is kept, the slot is empty
+pub none_kept : (xs : List (ℕ × Export)) (slots : BTreeMap ℕ Slot) (s : ℕ) → AreSlots xs slots → get nat_cmp slots s ≡ None
+    → record { first = None; strong = None; second = None } ≡ slot_of xs s
+none_kept xs slots s are e = sym (no_slot s xs (made_of_none (find (is_export_of s) xs) (slot_of xs s) (sym (are.each s) ∙ e)))

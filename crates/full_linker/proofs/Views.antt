@@ -1,15 +1,15 @@
 -- Packages while they are read.
-use Rattle.std.proofs.Common.{◌≡◌, ℕ, ◌+◌, List, [], ◌∷◌, ◌++◌, Some, ◌≤◌, length, map, take, refl, sym, ap, subst, ◌∙◌, arith}
+use Rattle.std.proofs.Common.{◌≡◌, ℕ, ◌+◌, List, [], ◌∷◌, ◌++◌, Some, ◌≤◌, length, map, take, sym, ap, subst, ◌∙◌, arith}
 use Rattle.std.specs.Prelude.{slice_get}
 use Rattle.std.proofs.lemmas.List.{take_more, map-append, length-map}
 use Rattle.std.proofs.lemmas.List.Elements.{All-push, recursion_from_All}
 use Rattle.std.proofs.lemmas.Option.{slice_get_within, get_or_from_slice_get}
 use Rattle.std.specs.List.{All}
-use Rattle.component_package.specs.Component.{Component}
-use Rattle.component_package.specs.Reading.{component_of}
-use Rattle.component_package.specs.Grammar.{IsComponent}
-use Rattle.component_package.specs.Manifest.{AreDistinct}
-use Rattle.link_laws.specs.Sets.{IsSet}
+use Rattle.component_package.specs.packages.Component.{Component}
+use Rattle.component_package.specs.packages.Reading.{component_of}
+use Rattle.component_package.specs.packages.Grammar.{IsComponent}
+use Rattle.component_package.specs.packages.Manifest.{AreDistinct}
+use Rattle.component_package.specs.link.Sets.{IsSet}
 
 -- the first n packages were read
 pub record AreRead (set : List (List ℕ)) (n : ℕ) (views : List Component) : Type 0 where
@@ -27,16 +27,11 @@ read_more set n views next b c are here says is e =
       sound = subst (λ (xs : List Component). All IsComponent xs) (sym e) (All-push IsComponent views c are.sound is);
     }
 
--- the numbers of packages are those of their components
-pub numbers : (set : List (List ℕ)) → map (λ b. (component_of b).component) set ≡ map (λ c. c.component) (map component_of set)
-numbers [] = refl
-numbers (b ∷ bs) = ap (λ (ns : List ℕ). (component_of b).component ∷ ns) (numbers bs)
-
--- packages of different components, at most 16, are a set
+-- the components of packages that were read are a set, where they are at most 16 and different
 pub is_set : (set : List (List ℕ)) (views : List Component) → views ≡ map component_of set → All IsComponent views → length set ≤ 16
-    → AreDistinct (map (λ b. (component_of b).component) set) → IsSet views
-is_set set views said sound few different = record {
+    → AreDistinct (map (λ c. c.component) views) → IsSet (map component_of set)
+is_set set views said sound few different = subst (λ (cs : List Component). IsSet cs) said (record {
   few = omega (arith, few, ap length said, length-map set component_of);
   components = recursion_from_All IsComponent views sound;
-  different = subst (λ (cs : List Component). AreDistinct (map (λ c. c.component) cs)) (sym said) (subst (λ (xs : List ℕ). AreDistinct xs) (numbers set) different);
-}
+  different = different;
+})

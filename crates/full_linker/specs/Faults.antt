@@ -1,6 +1,6 @@
 -- What a fault of the linker says.
 use Rattle.std.specs.Prelude.{◌≡◌, ◌≢◌, ℕ, Option, Some, None}
-use Rattle.component_package.specs.Link.{Cause, FlashFull, RamFull, Symbols, Relocations, Duplicate, Undefined, Range}
+use Rattle.component_package.specs.link.Link.{Cause, FlashFull, RamFull, Symbols, Relocations, Duplicate, Undefined, Range}
 use Rattle.full_linker.specs.declared.fault.LinkFault.{LinkFault}
 use Rattle.full_linker.specs.declared.fault.LinkFault.TheVariants as faults
 

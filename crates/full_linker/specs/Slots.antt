@@ -1,8 +1,11 @@
--- What a table of all symbols says of the exports of a set.
-use Rattle.std.specs.Prelude.{◌≡◌, ℕ, ◌<◌, ◌^◌, ◌==◌, List, [], ◌∷◌, length, map, slice_get, Option, Some, None}
+-- What a map of symbols says of the exports of a set.
+use Rattle.std.specs.Prelude.{◌≡◌, ℕ, ◌==◌, List, [], ◌∷◌, length, map, Option, Some, None}
 use Rattle.std.specs.List.{filter, find}
+use Rattle.std.specs.Option.{option_map, option_and_then}
+use Rattle.std.specs.Ordering.{nat_cmp}
+use Rattle.std.specs.BTreeMap.{BTreeMap, get, btree_map_len}
 use Rattle.component_package.specs.declared.part.Export.{Export}
-use Rattle.component_package.specs.Link.{is_strong_export_of, distinct}
+use Rattle.component_package.specs.link.Link.{is_strong_export_of, distinct}
 use Rattle.full_linker.specs.declared.symbols.Slot.{Slot}
 
 -- the second of a list, if there is one
@@ -19,11 +22,19 @@ slot_of exports s = record {
   second = second_of (map (λ x. x.0) (filter (is_strong_export_of s) exports));
 }
 
--- a slot for each symbol there may be
-pub record AreSlots (exports : List (ℕ × Export)) (slots : List Slot) : Type 0 where
-  pub size : length slots ≡ 2 ^ 16
-  pub each : (s : ℕ) → s < 2 ^ 16 → slice_get slots s ≡ Some (slot_of exports s)
-
 -- how many different symbols these exports have
 abbrev pub different_symbols : List (ℕ × Export) → ℕ
 different_symbols exports = length (distinct (map (λ x. x.1.symbol) exports))
+
+-- the slot that is kept of a symbol: none where nothing exports it
+abbrev pub kept_slot : List (ℕ × Export) → ℕ → Option Slot
+kept_slot exports s = option_map (λ _. slot_of exports s) (find (λ x. x.1.symbol == s) exports)
+
+-- a slot for each exported symbol
+pub record AreSlots (exports : List (ℕ × Export)) (slots : BTreeMap ℕ Slot) : Type 0 where
+  pub each : (s : ℕ) → get nat_cmp slots s ≡ kept_slot exports s
+  pub count : btree_map_len slots ≡ different_symbols exports
+
+-- the components of the first two exports that are not weak, if there are two
+abbrev pub twice_of : Slot → Option (ℕ × ℕ)
+twice_of slot = option_and_then (λ x. option_map (λ j. (x.0, j)) slot.second) slot.strong

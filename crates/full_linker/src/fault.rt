@@ -4,7 +4,9 @@ ghost use Rattle.std.specs.Prelude.{◌≡◌};
 ghost use Rattle.full_linker.specs.declared.fault.LinkFault.TheVariants.{Memory};
 
 use avr_reloc::RangeFault;
-use std::alloc::AllocError;
+use std::alloc::{AllocError, AllocFailed};
+use std::error::Error;
+use std::fmt;
 
 /// The first cause that a set has no image, in this order. Components and relocations are counted from 0.
 #[derive(Clone, Copy, Debug, PartialEq, Eq)]
@@ -47,10 +49,52 @@ impl LinkFault {
     }
 }
 
+/// The cause in words, with its values.
+impl fmt::Display for LinkFault {
+    fn fmt<W: fmt::Write>(&self, f: &mut fmt::Formatter<W>) -> fmt::Result {
+        match self {
+            LinkFault::Flash(total) => write!(f, "code and data have {total} bytes"),
+            LinkFault::Ram(total) => write!(f, "data and bss have {total} bytes"),
+            LinkFault::Symbols(count) => write!(f, "there are {count} symbols"),
+            LinkFault::Relocations(count) => write!(f, "there are {count} relocations"),
+            LinkFault::Duplicate(symbol, first, second) => {
+                write!(f, "components {first} and {second} define symbol {symbol}")
+            }
+            LinkFault::Undefined(component, index, symbol) => write!(
+                f,
+                "relocation {index} of component {component} refers to symbol {symbol}, which is undefined"
+            ),
+            LinkFault::Range(component, index, RangeFault::Odd) => {
+                write!(
+                    f,
+                    "relocation {index} of component {component} has an odd value"
+                )
+            }
+            LinkFault::Range(component, index, RangeFault::TooFar(value)) => {
+                write!(
+                    f,
+                    "relocation {index} of component {component} has no room for {value}"
+                )
+            }
+            LinkFault::Memory => write!(f, "there is no memory"),
+        }
+    }
+}
+
+impl Error for LinkFault {}
+
 impl From<AllocError> for LinkFault {
     ghost from_gives = { λ _ f. f ≡ Memory };
 
     fn from(_error: AllocError) -> LinkFault {
+        LinkFault::Memory
+    }
+}
+
+impl<T: Drop> From<AllocFailed<T>> for LinkFault {
+    ghost from_gives = { λ _ f. f ≡ Memory };
+
+    fn from(_error: AllocFailed<T>) -> LinkFault {
         LinkFault::Memory
     }
 }

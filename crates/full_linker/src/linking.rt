@@ -4,9 +4,9 @@ ghost use Rattle.std.specs.Prelude.{◌≡◌, ◌≤◌, None, map, length, IfO
 ghost use Rattle.std.specs.List.{All, AllPairs};
 ghost use Rattle.avr_reloc.specs.Field.{AreBytes, IsNear};
 ghost use Rattle.avr_reloc.specs.Fixups.{CanBePut, ArePut, AreApart};
-ghost use Rattle.component_package.specs.Reading.{component_of};
-ghost use Rattle.component_package.specs.Link.{link_cause, plain_of, sites_of, fixups_of, sites_cause, IsImage};
-ghost use Rattle.link_laws.specs.Sets.{IsSet};
+ghost use Rattle.component_package.specs.packages.Reading.{component_of};
+ghost use Rattle.component_package.specs.link.Link.{link_cause, plain_of, sites_of, fixups_of, sites_cause, IsImage};
+ghost use Rattle.component_package.specs.link.Sets.{IsSet};
 ghost use Rattle.full_linker.specs.Faults.{Says};
 ghost use Rattle.full_linker.specs.Linkable.{AreLinkable};
 ghost use Rattle.full_linker.specs.Placed.{IsPlaced};
@@ -15,7 +15,7 @@ use crate::fault::LinkFault;
 use crate::parts::{layout, plain, views_of};
 use crate::placed::Placed;
 use crate::sites::sites_of;
-use crate::symbols::{Slot, duplicate, symbols_of};
+use crate::symbols::{Slots, duplicate, symbols_of};
 use avr_reloc::{Fixup, put_all};
 use component_package::{Bytes, PackageView, Site};
 use layout_plan::Plan;
@@ -45,10 +45,10 @@ fn fields_of(
     alloc: Global,
     set: &[PackageView<'_>],
     plan: Plan,
-    slots: Vec<Slot>,
+    slots: Slots,
     sites: &[Site],
 ) -> Result<Vec<Fixup>, LinkFault>
-    requires placed { IsPlaced set.now plan slots.items }
+    requires placed { IsPlaced set.now plan slots }
     requires sites { sites.now ≡ sites_of set.now }
     ensures fixups { IfOk result (λ v. v.items ≡ fixups_of set.now) }
     ensures near { IfOk result (λ v. All (λ x. IsNear x.s_plus_a) v.items) }
@@ -65,25 +65,13 @@ fn image_of(alloc: Global, set: &[PackageView<'_>]) -> Result<Vec<u8>, LinkFault
     ensures image { IfOk result (λ v. IsImage set.now v.items) }
     ensures fault { IfErr result (λ f. Says f (link_cause set.now)) }
 {
-    let plan = match layout(alloc, set) {
-        Ok(plan) => plan,
-        Err(fault) => return Err(fault),
-    };
-    let slots = match symbols_of(alloc, set) {
-        Ok(slots) => slots,
-        Err(fault) => return Err(fault),
-    };
-    let sites = match sites_of(alloc, set) {
-        Ok(sites) => sites,
-        Err(fault) => return Err(fault),
-    };
+    let plan = layout(alloc, set)?;
+    let slots = symbols_of(alloc, set)?;
+    let sites = sites_of(alloc, set)?;
     if let Some(fault) = duplicate(&slots) {
         return Err(fault);
     }
-    let fixups = match fields_of(alloc, set, plan, slots, &sites) {
-        Ok(fixups) => fixups,
-        Err(fault) => return Err(fault),
-    };
+    let fixups = fields_of(alloc, set, plan, slots, &sites)?;
     Ok(patched(alloc, set, &fixups)?)
 }
 

@@ -2,9 +2,9 @@
 
 ghost use Rattle.std.specs.Prelude.{◌≡◌, ◌≤◌, None, map, IfOk, IfErr, length};
 ghost use Rattle.std.specs.List.{All};
-ghost use Rattle.component_package.specs.Reading.{component_of, package_fault};
-ghost use Rattle.component_package.specs.Grammar.{IsComponent};
-ghost use Rattle.component_package.specs.Link.{rooms_of, room_cause, plain_of};
+ghost use Rattle.component_package.specs.packages.Reading.{component_of, package_fault};
+ghost use Rattle.component_package.specs.packages.Grammar.{IsComponent};
+ghost use Rattle.component_package.specs.link.Link.{rooms_of, room_cause, plain_of};
 ghost use Rattle.layout_plan.specs.Plan.{rooms, IsPlan, IsPlanned};
 ghost use Rattle.full_linker.specs.Faults.{Says};
 

@@ -6,12 +6,12 @@ ghost use Rattle.std.specs.Option.{option_or};
 ghost use Rattle.std.specs.Result.{result_err};
 ghost use Rattle.avr_reloc.specs.Kind.{fault_of};
 ghost use Rattle.avr_reloc.specs.Field.{IsNear};
-ghost use Rattle.component_package.specs.Link.{base_of_place, address_of, target_of, place_of_site, site_cause};
-ghost use Rattle.component_package.specs.Link.{sites_of, fixup_of, fixups_of, sites_cause};
+ghost use Rattle.component_package.specs.link.Link.{base_of_place, address_of, target_of, place_of_site, site_cause};
+ghost use Rattle.component_package.specs.link.Link.{sites_of, fixup_of, fixups_of, sites_cause};
 ghost use Rattle.full_linker.specs.Faults.{Says, Finds};
 
 use crate::fault::LinkFault;
-use crate::symbols::Slot;
+use crate::symbols::Slots;
 use avr_reloc::{Fixup, RangeFault, patch_of};
 use component_package::{PackageView, Place, Site};
 use layout_plan::{Plan, linker_symbol};
@@ -23,11 +23,11 @@ use std::marker::Model;
 pub(crate) struct Placed<'a> {
     pub set: &'a [PackageView<'a>],
     pub plan: Plan,
-    pub slots: Vec<Slot>,
+    pub slots: Slots,
 }
 
 impl<'a> Model for Placed<'a> {
-    ghost use Rattle.component_package.specs.Component.{Component};
+    ghost use Rattle.component_package.specs.packages.Component.{Component};
     ghost use Rattle.full_linker.specs.Placed.{IsPlaced};
     ghost use Rattle.std.specs.Prelude.{List};
 
@@ -35,7 +35,7 @@ impl<'a> Model for Placed<'a> {
 
     ghost view = { λ p. p.set.now };
 
-    ghost invariant = { λ p. IsPlaced p.set.now p.plan p.slots.items };
+    ghost invariant = { λ p. IsPlaced p.set.now p.plan p.slots };
 }
 
 // S+A.
@@ -74,13 +74,9 @@ impl<'a> Placed<'a> {
     fn address(&self, symbol: u16) -> Option<u32>
         ensures { result ≡ address_of self.now symbol }
     {
-        let slot = self.slots[symbol as usize];
-        match slot.strong.or(slot.first) {
-            None => None,
-            Some((component, export)) => {
-                Some(self.base(component, export.place) + export.value as u32)
-            }
-        }
+        let slot = self.slots.get(&symbol)?;
+        let (component, export) = slot.strong.or(slot.first)?;
+        Some(self.base(component, export.place) + export.value as u32)
     }
 
     // The value of a symbol; a weak reference to none is 0.
@@ -158,14 +154,7 @@ impl<'a> Placed<'a> {
         let _ = &self.set;
         let mut fixups = Vec::new(alloc);
         for site in sites {
-            let x = match self.fixup(site) {
-                Ok(x) => x,
-                Err(fault) => return Err(fault),
-            };
-            match fixups.push(x) {
-                Ok(()) => {}
-                Err(_) => return Err(LinkFault::Memory),
-            }
+            fixups.push(self.fixup(site)?)?;
         }
         Ok(fixups)
     }

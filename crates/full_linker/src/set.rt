@@ -2,8 +2,8 @@
 
 ghost use Rattle.std.specs.Prelude.{◌≡◌, ◌↔◌, ◌==◌, None, map, IsTrue, IfOk};
 ghost use Rattle.std.specs.List.{All, list_any};
-ghost use Rattle.component_package.specs.Reading.{package_fault};
-ghost use Rattle.component_package.specs.Manifest.{AreDistinct};
+ghost use Rattle.component_package.specs.packages.Reading.{package_fault};
+ghost use Rattle.component_package.specs.packages.Manifest.{AreDistinct};
 ghost use Rattle.full_linker.specs.Linkable.{AreLinkable};
 
 use crate::parts::views_of;

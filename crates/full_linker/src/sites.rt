@@ -1,10 +1,11 @@
 //! The relocations of a set.
 
 ghost use Rattle.std.specs.Prelude.{◌≡◌, ◌++◌, ◌≤◌, ◌+◌, ◌*◌, None, length, OnOk, IfOk, IfErr};
-ghost use Rattle.component_package.specs.Link.{sites_in, sites_of, relocations_cause};
+ghost use Rattle.component_package.specs.link.Link.{sites_in, sites_of, relocations_cause};
 ghost use Rattle.full_linker.specs.Faults.{Says};
 
 use crate::fault::LinkFault;
+use component_package::limits::SET_RELOCATIONS;
 use component_package::{PackageView, Site};
 use std::alloc::{AllocError, Global};
 
@@ -43,7 +44,7 @@ pub(crate) fn sites_of(alloc: Global, set: &[PackageView<'_>]) -> Result<Vec<Sit
     ensures fault { IfErr result (λ f. Says f (relocations_cause set.now)) }
 {
     let sites = all_sites(alloc, set)?;
-    if 8192 < sites.len() {
+    if sites.len() > SET_RELOCATIONS as usize {
         return Err(LinkFault::Relocations(sites.len() as u32));
     }
     Ok(sites)

@@ -476,20 +476,34 @@ fn what_may_be_linked(rt: HostRuntime) -> Result<(), Fail> {
 }
 
 #[test]
-fn fault_numbers(rt: HostRuntime) -> Result<(), Fail> {
+fn fault_numbers_and_words(rt: HostRuntime) -> Result<(), Fail> {
     use LinkFault::*;
-    let faults = [
-        Flash(0),
-        Ram(0),
-        Symbols(0),
-        Relocations(0),
-        Duplicate(0, 0, 0),
-        Undefined(0, 0, 0),
-        Range(0, 0, RangeFault::Odd),
-        Memory,
+    let rows = [
+        (Flash(122_882), "code and data have 122882 bytes"),
+        (Ram(3586), "data and bss have 3586 bytes"),
+        (Symbols(1025), "there are 1025 symbols"),
+        (Relocations(8193), "there are 8193 relocations"),
+        (Duplicate(16, 0, 2), "components 0 and 2 define symbol 16"),
+        (
+            Undefined(1, 2, 17),
+            "relocation 2 of component 1 refers to symbol 17, which is undefined",
+        ),
+        (
+            Range(1, 2, RangeFault::Odd),
+            "relocation 2 of component 1 has an odd value",
+        ),
+        (Memory, "there is no memory"),
     ];
-    for (i, fault) in faults.iter().enumerate() {
+    for (i, (fault, words)) in rows.iter().enumerate() {
         assert_eq!(rt; fault.number() as usize, i + 1);
+        let shown = format!(in rt.alloc(); "{fault}")?;
+        assert_eq!(rt; shown.as_str(), *words);
     }
+    let far = Range(3, 4, RangeFault::TooFar(-4100));
+    let shown = format!(in rt.alloc(); "{far}")?;
+    assert_eq!(rt;
+        shown.as_str(),
+        "relocation 4 of component 3 has no room for -4100"
+    );
     Ok(())
 }

@@ -3,7 +3,7 @@ use Rattle.std.proofs.Common.{◌≡◌, ℕ, ◌+◌, ◌<◌, List, [], ◌∷
 use Rattle.std.specs.List.{sum_by}
 use Rattle.std.proofs.lemmas.List.{length-map, take-map}
 use Rattle.std.proofs.lemmas.List.Sums.{sum_by-cons}
-use Rattle.component_package.specs.Layout.{Room}
+use Rattle.component_package.specs.link.Layout.{Room}
 use Rattle.layout_plan.specs.declared.plan.Sizes.{Sizes}
 use Rattle.layout_plan.specs.Plan.{room, rooms, Begins}
 

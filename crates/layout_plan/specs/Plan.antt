@@ -1,6 +1,7 @@
 -- The plan of a set by its sizes.
 use Rattle.std.specs.Prelude.{◌≡◌, ℕ, ◌+◌, ◌<◌, ◌≤◌, List, length, map, slice_index, nat_lt, Option, Some, None, if◌then◌else◌}
-use Rattle.component_package.specs.Layout.{Room, code_total, init_total, bss_total, code_base, load_base, ram_base, bss_base}
+use Rattle.component_package.specs.declared.limits.TheConstants.{IMAGE_BYTES, RAM_BYTES}
+use Rattle.component_package.specs.link.Layout.{Room, code_total, init_total, bss_total, code_base, load_base, ram_base, bss_base}
 use Rattle.layout_plan.specs.declared.plan.Sizes.{Sizes}
 use Rattle.layout_plan.specs.declared.plan.Part.{Part}
 use Rattle.layout_plan.specs.declared.plan.Part.TheVariants as parts
@@ -39,12 +40,12 @@ pub record IsPlan (rs : List Room) (p : Plan) : Type 0 where
 -- the first fault: too much for program flash, then too much for RAM
 abbrev pub plan_fault : List Room → Option PlanFault
 plan_fault rs =
-    if nat_lt 122880 (code_total rs + init_total rs) then Some (Flash (code_total rs + init_total rs))
-    else if nat_lt 3584 (init_total rs + bss_total rs) then Some (Ram (init_total rs + bss_total rs))
+    if nat_lt IMAGE_BYTES (code_total rs + init_total rs) then Some (Flash (code_total rs + init_total rs))
+    else if nat_lt RAM_BYTES (init_total rs + bss_total rs) then Some (Ram (init_total rs + bss_total rs))
     else None
 
 -- a plan that `plan_of` answers for some components: they are at most 16, and have room
 pub record IsPlanned (p : Plan) : Type 0 where
   pub count : p.count ≤ 16
-  pub flash : p.code_total + p.init_total ≤ 122880
-  pub ram : p.init_total + p.bss_total ≤ 3584
+  pub flash : p.code_total + p.init_total ≤ IMAGE_BYTES
+  pub ram : p.init_total + p.bss_total ≤ RAM_BYTES

@@ -3,10 +3,11 @@
 ghost use Rattle.std.specs.Prelude.{◌≡◌, ◌+◌, ◌*◌, ◌≤◌, ◌<◌, ◌^◌, length, take, IfOk, Some, List};
 ghost use Rattle.std.specs.List.{sum_by};
 ghost use Rattle.std.specs.Result.{result_err};
-ghost use Rattle.component_package.specs.Layout.{Room, linker_symbol};
+ghost use Rattle.component_package.specs.link.Layout.{Room, linker_symbol};
 ghost use Rattle.layout_plan.specs.Plan.{rooms, size_of, Begins, IsPlan, IsPlanned, plan_fault};
 
 use crate::plan::{Part, Plan, PlanFault, Sizes};
+use component_package::limits::{IMAGE_BYTES, RAM_BYTES};
 
 /// The first address of data, 0x0100 of the device, as the AVR tools number it.
 const DATA_START: u32 = 0x800100;
@@ -43,10 +44,10 @@ pub fn plan_of(sizes: &[Sizes]) -> Result<Plan, PlanFault>
     let (load, init_total) = bases(sizes, Part::Init, code_total);
     let (ram, _) = bases(sizes, Part::Init, DATA_START);
     let (bss, bss_total) = bases(sizes, Part::Bss, DATA_START + init_total);
-    if 122_880 < code_total + init_total {
+    if IMAGE_BYTES < code_total + init_total {
         return Err(PlanFault::Flash(code_total + init_total));
     }
-    if 3_584 < init_total + bss_total {
+    if RAM_BYTES < init_total + bss_total {
         return Err(PlanFault::Ram(init_total + bss_total));
     }
     Ok(Plan {

@@ -1,5 +1,5 @@
 use Rattle.std.proofs.Common.{◌≡◌, map, take}
-use Rattle.component_package.specs.Layout.{room_of}
+use Rattle.component_package.specs.link.Layout.{room_of}
 use Rattle.layout_plan.specs.Plan.{rooms}
 use Rattle.full_linker.proofs.parts.sizes_of.Given as goal
 

@@ -2,7 +2,7 @@ use Rattle.std.proofs.Common.{◌≡◌, refl, List, ℕ, None, sym, subst, take
 use Rattle.std.specs.List.{All}
 use Rattle.std.proofs.lemmas.List.{take_more, take_all}
 use Rattle.std.proofs.lemmas.List.Elements.{All-push}
-use Rattle.component_package.specs.Reading.{package_fault}
+use Rattle.component_package.specs.packages.Reading.{package_fault}
 use Rattle.full_linker.proofs.set.are_packages.Goals as goal
 
 pub loop-bytes-preserved : goal.loop-bytes-preserved

@@ -1,6 +1,6 @@
 use Rattle.std.proofs.Common.{◌≡◌, None, take}
 use Rattle.std.specs.List.{All}
-use Rattle.component_package.specs.Reading.{package_fault}
+use Rattle.component_package.specs.packages.Reading.{package_fault}
 use Rattle.full_linker.proofs.set.are_packages.Given as goal
 
 abbrev pub invariant-loop-bytes : goal.invariant-loop-bytes

@@ -1,7 +1,7 @@
 use Rattle.std.proofs.Common.{ap, ◌∙◌, length, arith, refl}
 use Rattle.std.proofs.lemmas.Option.{slice_get_read}
 use Rattle.std.specs.List.{flat_map}
-use Rattle.component_package.specs.Link.{sites_in}
+use Rattle.component_package.specs.link.Link.{sites_in}
 use Rattle.full_linker.proofs.Numbered.{flat_numbered_more, numbered_all}
 use Rattle.full_linker.proofs.sites.all_sites.Goals as goal
 

@@ -1,6 +1,6 @@
 use Rattle.std.proofs.Common.{◌≡◌, ◌*◌, ◌≤◌, take, length}
 use Rattle.std.specs.List.{flat_map, enumerate_from}
-use Rattle.component_package.specs.Link.{sites_in}
+use Rattle.component_package.specs.link.Link.{sites_in}
 use Rattle.full_linker.proofs.sites.all_sites.Given as goal
 
 abbrev pub invariant-loop-k : goal.invariant-loop-k

@@ -1,7 +1,7 @@
 use Rattle.std.proofs.Common.{◌++◌, ◌∷◌, [], ◌≤◌, List, ℕ, ap, ◌∙◌, length, append_assoc, arith, take, length-append}
 use Rattle.component_package.specs.declared.part.Site.{Site}
 use Rattle.component_package.specs.declared.part.Reloc.{Reloc}
-use Rattle.component_package.specs.Link.{sites_in}
+use Rattle.component_package.specs.link.Link.{sites_in}
 use Rattle.full_linker.proofs.Numbered.{map_numbered_more, map_numbered_all}
 use Rattle.full_linker.proofs.sites.push_sites.Goals as goal
 

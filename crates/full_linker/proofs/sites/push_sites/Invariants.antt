@@ -1,5 +1,5 @@
 use Rattle.std.proofs.Common.{◌≡◌, ◌++◌, ◌+◌, ◌≤◌, take, length}
-use Rattle.component_package.specs.Link.{sites_in}
+use Rattle.component_package.specs.link.Link.{sites_in}
 use Rattle.full_linker.proofs.sites.push_sites.Given as goal
 
 abbrev pub invariant-loop-index : goal.invariant-loop-index

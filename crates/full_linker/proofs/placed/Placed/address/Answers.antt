@@ -1,25 +1,32 @@
-use Rattle.std.proofs.Common.{◌<◌, ◌^◌, rules, sym, ◌∙◌}
-use Rattle.full_linker.proofs.Addresses.{slot_defines, exporter_inside, address_none, address_some}
+use Rattle.std.proofs.Common.{◌≡◌, None, sym, ap, ◌∙◌}
+use Rattle.std.specs.Option.{option_copied}
+use Rattle.component_package.specs.link.Link.{address_of}
+use Rattle.full_linker.proofs.Addresses.{slot_defines, undefined, exporter_inside, address_none, address_some}
 use Rattle.full_linker.proofs.placed.Placed.address.Goals as goal
+
+pub returns-in_err-slot : goal.returns-in_err-slot
+returns-in_err-slot c =
+    let set = c.self.inside.set.now in
+    let none : None ≡ address_of c.args.self.now c.args.symbol =
+    rw (← c.self.view_is) (address_none set c.args.symbol (undefined set c.self.inside.slots c.args.symbol c.self.invariant.slots (sym c.get.ensures.value ∙ ap option_copied c.in_err-slot.was))) in
+    c.from_residual.ensures ∙ none
+
+pub returns-in_err-component : goal.returns-in_err-component
+returns-in_err-component c =
+    let set = c.self.inside.set.now in
+    let is = slot_defines set c.self.inside.slots c.args.symbol c.in_ok-slot.slot.now c.self.invariant.slots (sym c.get.ensures.value ∙ ap option_copied c.in_ok-slot.was) in
+    let none : None ≡ address_of c.args.self.now c.args.symbol = rw (← c.self.view_is) (address_none set c.args.symbol (sym is ∙ sym c.or.ensures ∙ c.in_err-component.was)) in
+    c.from_residual-in_err-component.ensures ∙ none
 
 pub base-requires : goal.base-requires
 base-requires c =
-    let small : c.args.symbol < 2 ^ 16 = search rules in
     let set = c.self.inside.set.now in
-    let is = slot_defines set c.self.inside.slots.items c.args.symbol c.index-slot.result.now c.self.invariant.slots small c.index-slot.ensures in
-    rw (← c.self.view_is) (exporter_inside set c.self.invariant.components c.args.symbol (c.in-Some.component, c.in-Some.export) (sym is ∙ sym c.or.ensures ∙ c.in-Some.is))
+    let is = slot_defines set c.self.inside.slots c.args.symbol c.in_ok-slot.slot.now c.self.invariant.slots (sym c.get.ensures.value ∙ ap option_copied c.in_ok-slot.was) in
+    rw (← c.self.view_is) (exporter_inside set c.self.invariant.components.components c.args.symbol (c.in_ok-component.component, c.in_ok-component.export) (sym is ∙ sym c.or.ensures ∙ c.in_ok-component.was))
 
-pub returns-in-None : goal.returns-in-None
-returns-in-None c =
-    let small : c.args.symbol < 2 ^ 16 = search rules in
+pub returns : goal.returns
+returns c =
     let set = c.self.inside.set.now in
-    let is = slot_defines set c.self.inside.slots.items c.args.symbol c.index-slot.result.now c.self.invariant.slots small c.index-slot.ensures in
-    rw (← c.self.view_is) (address_none set c.args.symbol (sym is ∙ sym c.or.ensures ∙ c.in-None.is))
-
-pub returns-in-Some : goal.returns-in-Some
-returns-in-Some c =
-    let small : c.args.symbol < 2 ^ 16 = search rules in
-    let set = c.self.inside.set.now in
-    let is = slot_defines set c.self.inside.slots.items c.args.symbol c.index-slot.result.now c.self.invariant.slots small c.index-slot.ensures in
+    let is = slot_defines set c.self.inside.slots c.args.symbol c.in_ok-slot.slot.now c.self.invariant.slots (sym c.get.ensures.value ∙ ap option_copied c.in_ok-slot.was) in
     let base = rw (← c.self.view_is) at c.base.ensures.base in
-    rw (← c.self.view_is) (address_some set c.args.symbol c.base.result (c.in-Some.component, c.in-Some.export) (sym is ∙ sym c.or.ensures ∙ c.in-Some.is) base)
+    rw (← c.self.view_is) (address_some set c.args.symbol c.base.result (c.in_ok-component.component, c.in_ok-component.export) (sym is ∙ sym c.or.ensures ∙ c.in_ok-component.was) base)
