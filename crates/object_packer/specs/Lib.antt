@@ -1,0 +1,10 @@
+pub mod Sections
+pub mod Parts
+pub mod Order
+pub mod References
+pub mod Relocations
+pub mod Names
+pub mod Faults
+pub mod Packed
+pub mod Layout
+pub mod NameTable
