@@ -10,9 +10,9 @@ use Rattle.component_package.specs.declared.manifest.Entry.{Entry}
 use Rattle.component_package.specs.declared.part.Header.{Header}
 use Rattle.component_package.specs.declared.fault.PackageFault.{PackageFault}
 use Rattle.component_package.specs.declared.fault.PackageFault.TheVariants.{Short, Magic, Reserved, Parity, Length}
-use Rattle.component_package.specs.Reading.{header_of, header_fault, has_magic, is_blank, has_even_lengths, has_its_length, total_of, exports_fault, reloc_fault, package_fault, first_fault}
+use Rattle.component_package.specs.packages.Reading.{header_of, header_fault, has_magic, is_blank, has_even_lengths, has_its_length, total_of, exports_fault, reloc_fault, package_fault, first_fault}
 use Rattle.component_package.specs.Laws.{export_step, reloc_step}
-use Rattle.component_package.specs.Store.{slot_at}
+use Rattle.component_package.specs.mote.Store.{slot_at}
 use Rattle.component_package.proofs.First.{passed, first_fault-same}
 use Rattle.component_package.proofs.Laws.{steps_find_the_fault}
 use Rattle.component_package.proofs.Steps.{reloc_step_is}

@@ -4,3 +4,4 @@ pub mod SlotBytes
 pub mod HeldLemmas
 pub mod OpenLemmas
 pub mod PartLemmas
+pub mod ExportLemmas

@@ -8,9 +8,9 @@ use Rattle.component_package.specs.declared.manifest.Entry.{Entry}
 use Rattle.component_package.specs.declared.manifest.SlotManifest.{SlotManifest}
 use Rattle.component_package.specs.declared.part.Header.{Header}
 use Rattle.component_package.specs.declared.fault.PackageFault.{PackageFault}
-use Rattle.component_package.specs.Reading.{first_fault, package_fault, number_of_fault, header_of}
-use Rattle.component_package.specs.Manifest.{Placed, StoredRelease, IsManifestEntry, IsSlotManifest, stored_of}
-use Rattle.component_package.specs.Store.{slots_of, package_in, is_same, is_missing, missing_at, bad_package_at, stored_fault, SetFault, Missing, BadPackage}
+use Rattle.component_package.specs.packages.Reading.{first_fault, package_fault, number_of_fault, header_of}
+use Rattle.component_package.specs.packages.Manifest.{Placed, StoredRelease, IsManifestEntry, IsSlotManifest, stored_of}
+use Rattle.component_package.specs.mote.Store.{slots_of, package_in, is_same, is_missing, missing_at, bad_package_at, stored_fault, SetFault, Missing, BadPackage}
 use Rattle.component_package.proofs.Lists.{all_at}
 use Rattle.component_package.proofs.StoredLemmas.{pair_at, the_placed}
 use Rattle.component_store.specs.declared.set.StoreFault.{StoreFault}

@@ -18,12 +18,12 @@ use Rattle.component_package.specs.declared.part.Header.{Header}
 use Rattle.component_package.specs.declared.part.Export.{Export}
 use Rattle.component_package.specs.declared.part.Reloc.{Reloc}
 use Rattle.component_package.specs.declared.fault.PackageFault.{PackageFault}
-use Rattle.component_package.specs.Component.{Component}
-use Rattle.component_package.specs.Reading.{first_fault, header_of, total_of, package_fault, number_of_fault, component_of, check_export_of, export_in, export_of, place_of, is_above, check_reloc_of, reloc_in, reloc_with, reloc_of, has_place, is_behind, has_target, is_clear}
-use Rattle.component_package.specs.Numbers.{u16_at}
+use Rattle.component_package.specs.packages.Component.{Component}
+use Rattle.component_package.specs.packages.Reading.{first_fault, header_of, total_of, package_fault, number_of_fault, component_of, check_export_of, export_in, export_of, place_of, is_above, check_reloc_of, reloc_in, reloc_with, reloc_of, has_place, is_behind, has_target, is_clear}
+use Rattle.component_package.specs.packages.Numbers.{u16_at}
 use Rattle.component_package.specs.declared.fault.PackageFault.TheVariants.{ExportOrder, RelocPlace, RelocOrder, Target, FieldNotZero}
-use Rattle.component_package.specs.Manifest.{Placed, stored_of}
-use Rattle.component_package.specs.Store.{slots_of, package_in, stored_fault, identity_fault, missing_at, bad_package_at, BadPackage}
+use Rattle.component_package.specs.packages.Manifest.{Placed, stored_of}
+use Rattle.component_package.specs.mote.Store.{slots_of, package_in, stored_fault, identity_fault, missing_at, bad_package_at, BadPackage}
 use Rattle.component_package.proofs.First.{none_or, no_fault, chosen, spared}
 use Rattle.component_package.proofs.Steps.{export_said}
 use Rattle.component_package.proofs.StoredLemmas.{length-pairs, the_placed}

@@ -7,10 +7,10 @@ use Rattle.std.proofs.lemmas.List.{length-take-le, length-drop}
 use Rattle.std.proofs.lemmas.List.Elements.{All-head, All-tail, All-take, All-drop}
 use Rattle.std.proofs.lemmas.List.FromFn.{get_or-map-range_with_len}
 use Rattle.flash_pages.specs.State.{State, IsState, IsPage}
-use Rattle.component_package.specs.FirstMachine.{filled_page}
-use Rattle.component_package.specs.Machine.{with_page_of}
-use Rattle.component_package.specs.Store.{slot_at, slots_of}
-use Rattle.component_package.specs.Sides.{pages_from, Parts}
+use Rattle.component_package.specs.mote.Page.{filled_page}
+use Rattle.component_package.specs.mote.Machine.{with_page_of}
+use Rattle.component_package.specs.mote.Store.{slot_at, slots_of}
+use Rattle.component_package.specs.mote.Sides.{pages_from, Parts}
 use Rattle.component_package.proofs.First.{passed}
 use Rattle.component_store.specs.declared.set.StoreFault.TheVariants.{Page}
 use Rattle.component_store.specs.Pieces.{piece_fault}

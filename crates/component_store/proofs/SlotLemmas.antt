@@ -6,8 +6,8 @@ use Rattle.std.proofs.lemmas.Bool.{false≢true}
 use Rattle.std.proofs.lemmas.List.Folds.{list_any-append}
 use Rattle.component_package.specs.declared.manifest.Entry.{Entry}
 use Rattle.component_package.specs.declared.manifest.SlotManifest.{SlotManifest}
-use Rattle.component_package.specs.Manifest.{Placed, StoredRelease}
-use Rattle.component_package.specs.Store.{is_same, held_slot, is_taken, least_free, place_entry, placed_from}
+use Rattle.component_package.specs.packages.Manifest.{Placed, StoredRelease}
+use Rattle.component_package.specs.mote.Store.{is_same, held_slot, is_taken, least_free, place_entry, placed_from}
 use Rattle.component_package.proofs.StoredLemmas.{the_placed}
 use Rattle.component_store.specs.Slots.{used_slots}
 use Rattle.mote_laws.proofs.Sets.{same_lists_are, is_same_itself}

@@ -4,7 +4,7 @@ use Rattle.std.specs.Option.{option_or, option_map}
 use Rattle.component_package.specs.declared.manifest.Entry.{Entry}
 use Rattle.component_package.specs.declared.part.Header.{Header}
 use Rattle.component_package.specs.declared.fault.PackageFault.{PackageFault}
-use Rattle.component_package.specs.Reading.{package_fault, header_of, exports_fault, relocs_fault}
+use Rattle.component_package.specs.packages.Reading.{package_fault, header_of, exports_fault, relocs_fault}
 use Rattle.component_store.specs.declared.set.StoreFault.{StoreFault}
 use Rattle.component_store.specs.declared.set.StoreFault.TheVariants.{Fault, Page, PieceLength, Package, Identity}
 

@@ -1,6 +1,7 @@
 -- Pieces of packages, and the faults of a store.
-use Rattle.std.specs.Prelude.{◌≡◌, ℕ, ◌+◌, ◌-◌, ◌*◌, ◌==◌, nat_le, min, Bool, true, false, Option, Some, None, Result, Ok, Err, if◌then◌else◌}
+use Rattle.std.specs.Prelude.{◌≡◌, ℕ, ◌-◌, ◌*◌, ◌==◌, nat_le, min, Bool, true, false, Option, Some, None, Result, Ok, Err, if◌then◌else◌}
 use Rattle.flash_pages.specs.State.{State, Place, Ext}
+use Rattle.component_package.specs.mote.Store.{page_of_slot}
 use Rattle.component_store.specs.declared.set.StoreFault.{StoreFault}
 use Rattle.component_store.specs.declared.set.StoreFault.TheVariants.{Fault, Page, PieceLength, Package, Identity}
 
@@ -17,7 +18,7 @@ IsPiece length page count s = piece_fault length page count ≡ None
 
 -- page `page` of a slot
 abbrev pub piece_place : ℕ → ℕ → Place
-piece_place slot page = Ext (786 + 39 * slot + page)
+piece_place slot page = Ext (page_of_slot slot page)
 
 -- a call of the board failed
 abbrev pub is_fault : {A : Type 0} → Result A StoreFault → Bool

@@ -1,14 +1,15 @@
 -- A slot's bytes, and the page of it that is kept.
-use Rattle.std.specs.Prelude.{◌≡◌, ◌<◌, ◌+◌, ◌*◌, ℕ, List, take}
+use Rattle.std.specs.Prelude.{◌≡◌, ◌<◌, ℕ, List, take}
 use Rattle.flash_pages.specs.State.{State, Ext, page_at}
+use Rattle.component_package.specs.declared.areas.TheConstants.{SLOT_PAGES}
 use Rattle.component_package.specs.declared.part.Header.{Header}
-use Rattle.component_package.specs.Reading.{header_of, total_of}
-use Rattle.component_package.specs.Store.{slot_at}
+use Rattle.component_package.specs.packages.Reading.{header_of, total_of}
+use Rattle.component_package.specs.mote.Store.{page_of_slot, slot_at}
 use Rattle.component_store.specs.declared.reader.SlotReader.{SlotReader}
 
 -- the page that a reader keeps is the slot's, where it has read one
 abbrev pub Keeps : State → SlotReader → Type 0
-Keeps s r = r.page < 39 → r.bytes ≡ page_at s (Ext (786 + 39 * r.slot + r.page))
+Keeps s r = r.page < SLOT_PAGES → r.bytes ≡ page_at s (Ext (page_of_slot r.slot r.page))
 
 -- the first bytes of a slot
 abbrev pub held_bytes : State → ℕ → ℕ → List ℕ

@@ -4,11 +4,11 @@ use Rattle.flash_pages.specs.State.{State}
 use Rattle.component_package.specs.declared.part.Header.{Header}
 use Rattle.component_package.specs.declared.manifest.Entry.{Entry}
 use Rattle.component_package.specs.declared.manifest.Manifest.{Manifest}
-use Rattle.component_package.specs.Reading.{header_of, has_even_lengths, total_of, number_of_fault}
-use Rattle.component_package.specs.Manifest.{Placed, StoredRelease, IsSlotManifest, stored_of}
-use Rattle.component_package.specs.Store.{slots_of, package_in, set_fault, components_of}
-use Rattle.component_package.specs.Component.{Component}
-use Rattle.component_package.specs.Store as store
+use Rattle.component_package.specs.packages.Reading.{header_of, has_even_lengths, total_of, number_of_fault}
+use Rattle.component_package.specs.packages.Manifest.{Placed, StoredRelease, IsSlotManifest, stored_of}
+use Rattle.component_package.specs.mote.Store.{slots_of, package_in, set_fault, components_of}
+use Rattle.component_package.specs.packages.Component.{Component}
+use Rattle.component_package.specs.mote.Store as store
 use Rattle.component_store.specs.declared.set.StoreFault.{StoreFault}
 use Rattle.component_store.specs.declared.set.StoreFault.TheVariants as faults
 use Rattle.component_store.specs.declared.set.SetFault.{SetFault}

@@ -3,9 +3,9 @@
 ghost use Rattle.std.specs.Prelude.{◌≡◌, ◌≤◌, ◌<◌, true, false, IfOk, IfErr, Some, None, length, slice_get};
 ghost use Rattle.flash_pages.specs.State.{State};
 ghost use Rattle.flash_pages.specs.Board.{View, Reads, Rose};
-ghost use Rattle.component_package.specs.Reading.{first_fault};
-ghost use Rattle.component_package.specs.Manifest.{IsSlotManifest, stored_of};
-ghost use Rattle.component_package.specs.Store.{slots_of, set_fault, missing_at, bad_package_at};
+ghost use Rattle.component_package.specs.packages.Reading.{first_fault};
+ghost use Rattle.component_package.specs.packages.Manifest.{IsSlotManifest, stored_of};
+ghost use Rattle.component_package.specs.mote.Store.{slots_of, set_fault, missing_at, bad_package_at};
 ghost use Rattle.component_store.specs.Packages.{is_of_package};
 ghost use Rattle.component_store.specs.Sets.{IsSet, HoldsSet, HasHeaders, AreHeaders, SetFaultIs, is_set_fault, number_of_stored_fault};
 

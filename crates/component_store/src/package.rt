@@ -5,7 +5,7 @@ ghost use Rattle.std.specs.Option.{option_map};
 ghost use Rattle.sha2.specs.Sha256.{sha256};
 ghost use Rattle.flash_pages.specs.State.{State};
 ghost use Rattle.flash_pages.specs.Board.{View, Reads, Rose};
-ghost use Rattle.component_package.specs.Reading.{header_of, header_fault, exports_fault, relocs_fault, has_even_lengths, total_of};
+ghost use Rattle.component_package.specs.packages.Reading.{header_of, header_fault, exports_fault, relocs_fault, has_even_lengths, total_of};
 ghost use Rattle.component_store.specs.declared.set.StoreFault.TheVariants.{Package};
 ghost use Rattle.component_store.specs.Pieces.{is_fault};
 ghost use Rattle.component_store.specs.Packages.{is_of, package_answer, records_fault, is_of_package, FaultIs};
@@ -14,15 +14,10 @@ ghost use Rattle.component_store.specs.Reader.{Keeps, IsUnder, held_bytes, held_
 use crate::reader::SlotReader;
 use crate::records::{export_raw, field_raw, reloc_raw};
 use crate::set::StoreFault;
+use crate::slots::is_same;
 use component_package::{Entry, Header, check_export, check_reloc, read_header};
 use flash_pages::{Board, Failed};
 use sha2::{Digest, Sha256};
-
-fn is_same(a: &[u8; 32], b: &[u8; 32]) -> bool
-    ensures { IsTrue result ↔ (a.now ≡ b.now) }
-{
-    a == b
-}
 
 /// Whether the slot's first `size` bytes have this SHA-256 digest. It reads each of their pages once.
 pub fn check<B: Board>(

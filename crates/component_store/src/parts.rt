@@ -2,11 +2,11 @@
 
 ghost use Rattle.std.specs.Prelude.{◌≡◌, ◌≤◌, ◌<◌, ◌+◌, IfOk, OnErr, OnOk, Some, None, Ok, [], ◌∷◌, length, slice_get, slice_index, slice_range, if◌then◌else◌};
 ghost use Rattle.flash_pages.specs.State.{State};
-ghost use Rattle.flash_pages.specs.Board.{View, Reads, Rose};
+ghost use Rattle.flash_pages.specs.Board.{View, Told, Reads, Rose, FlashFaults};
 ghost use Rattle.component_package.specs.declared.part.Export.{Export};
 ghost use Rattle.component_package.specs.declared.part.Reloc.{Reloc};
-ghost use Rattle.component_package.specs.Component.{Component};
-ghost use Rattle.component_package.specs.Reading.{total_of, check_export_of, check_reloc_of};
+ghost use Rattle.component_package.specs.packages.Component.{Component};
+ghost use Rattle.component_package.specs.packages.Reading.{total_of, check_export_of, check_reloc_of};
 ghost use Rattle.component_store.specs.Reader.{Keeps};
 ghost use Rattle.component_store.specs.Sets.{IsSet, HasRooms, HoldsSet, IsComponentOf, header_at, length_of_part, part_of};
 
@@ -36,7 +36,7 @@ const NO_RELOC: Reloc = Reloc {
 };
 
 // The export that six bytes spell, whatever came before it.
-fn export_in(h: &Header, i: u16, raw: &[u8; 6]) -> Export
+pub(crate) fn export_in(h: &Header, i: u16, raw: &[u8; 6]) -> Export
     ensures { (e : Export) → check_export_of h.now None i raw.now ≡ Ok e → result ≡ e }
 {
     match check_export(h, None, i, raw) {
@@ -63,7 +63,7 @@ fn part_start(h: &Header, in_init: bool) -> u32
 }
 
 // A reader of the slot of component `k`.
-fn reader_of(set: &StoredSet, k: u8) -> SlotReader
+pub(crate) fn reader_of(set: &StoredSet, k: u8) -> SlotReader
     requires set { IsSet set.now }
     requires component { k < set.now.slots.manifest.count }
     ensures slot { result.slot ≡ slice_index set.now.slots.slots k }
@@ -93,6 +93,45 @@ pub fn export_at<B: Board>(board: &mut B, set: &StoredSet, k: u8, i: u16) -> Res
     Ok(export_in(&h, i, &raw))
 }
 
+// The reader, turned to the slot of component `k`.
+fn turn_to(set: &StoredSet, table: &mut SlotReader, k: u8)
+    requires set { IsSet set.now }
+    requires component { k < set.now.slots.manifest.count }
+    ensures slot { table.new.slot ≡ slice_index set.now.slots.slots k }
+    ensures low { table.new.slot < 32 }
+    ensures keeps { (s : State) → Keeps s table.old → Keeps s table.new }
+    ensures whole { total_of (header_at set.now k) ≤ 9984 }
+    ensures rooms { HasRooms set.now }
+{
+    let own = reader_of(set, k);
+    if table.slot != own.slot {
+        *table = own;
+    }
+}
+
+/// Relocation `i` of component `k` of the set, by a reader that keeps the page that it read last: so relocations that are read in order cost each
+/// page one read. The reader may be any, also one that was used for another component. `Failed` comes only where flash faults rose.
+pub fn read_reloc<B: Board>(
+    board: &mut B,
+    set: &StoredSet,
+    table: &mut SlotReader,
+    k: u8,
+    i: u16,
+) -> Result<Reloc, Failed>
+    requires set { IsSet set.now }
+    requires component { k < set.now.slots.manifest.count }
+    requires reloc { i < (header_at set.now k).relocs }
+    ensures reloc { IfOk result (λ r. Told (B.view board.old) (λ s. Keeps s table.old → HoldsSet s set.now → (c : Component) → IsComponentOf s set.now k c → slice_get c.relocs i ≡ Some r)) }
+    ensures keeps { OnOk result (Told (B.view board.old) (λ s. Keeps s table.old → HoldsSet s set.now → (c : Component) → IsComponentOf s set.now k c → Keeps s table.new)) }
+    ensures reads { Reads (B.view board.old) (B.view board.new) }
+    ensures faults { FlashFaults result (B.view board.old) (B.view board.new) }
+{
+    let h = set.headers[k as usize];
+    turn_to(set, table, k);
+    let raw = reloc_raw(board, table, &h, i)?;
+    Ok(reloc_in(&h, i, &raw))
+}
+
 /// Relocation `i` of component `k` of the set. `Failed` comes only where flash faults rose.
 pub fn reloc_at<B: Board>(board: &mut B, set: &StoredSet, k: u8, i: u16) -> Result<Reloc, Failed>
     requires set { IsSet set.now }
@@ -103,10 +142,9 @@ pub fn reloc_at<B: Board>(board: &mut B, set: &StoredSet, k: u8, i: u16) -> Resu
     ensures no_fault { OnOk result ((B.view board.new).flash_faults ≡ (B.view board.old).flash_faults) }
     ensures failed { OnErr result (Rose (B.view board.old).flash_faults (B.view board.new).flash_faults) }
 {
-    let h = set.headers[k as usize];
-    let mut table = reader_of(set, k);
-    let raw = reloc_raw(board, &mut table, &h, i)?;
-    Ok(reloc_in(&h, i, &raw))
+    let mut table = SlotReader::new(0);
+    let reloc = read_reloc(board, set, &mut table, k, i)?;
+    Ok(reloc)
 }
 
 /// Bytes of component `k` of the set, from byte `from` on of its code, or of its data where `in_init`. With `Failed` the buffer holds any bytes;

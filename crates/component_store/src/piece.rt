@@ -4,9 +4,9 @@ ghost use Rattle.std.specs.Prelude.{◌≡◌, ◌≢◌, ◌↔◌, ◌≤◌, 
 ghost use Rattle.std.specs.Result.{result_err};
 ghost use Rattle.flash_pages.specs.State.{State, page_at, with_page};
 ghost use Rattle.flash_pages.specs.Board.{View, Reads, Programs, Rose};
-ghost use Rattle.component_package.specs.FirstMachine.{filled_page};
-ghost use Rattle.component_package.specs.Machine.{with_page_of};
-ghost use Rattle.component_package.specs.Store.{slots_of};
+ghost use Rattle.component_package.specs.mote.Page.{filled_page};
+ghost use Rattle.component_package.specs.mote.Machine.{with_page_of};
+ghost use Rattle.component_package.specs.mote.Store.{page_of_slot, slots_of};
 ghost use Rattle.component_store.specs.Pieces.{piece_fault, is_fault, piece_place, IsPiece};
 
 use crate::set::StoreFault;
@@ -47,7 +47,7 @@ fn filled(bytes: &[u8]) -> [u8; 256]
 pub(crate) fn page_of(slot: u8, page: u8) -> u16
     requires slot { slot < 32 }
     requires page { page < 39 }
-    ensures page { result ≡ 786 + 39 * slot + page }
+    ensures page { result ≡ page_of_slot slot page }
     ensures within { result < 2048 }
 {
     SLOTS + SLOT_PAGES * slot as u16 + page as u16

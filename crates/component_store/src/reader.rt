@@ -3,7 +3,7 @@
 ghost use Rattle.std.specs.Prelude.{◌≡◌, ◌≤◌, ◌<◌, ◌+◌, ◌*◌, length, take, drop, Some, OnOk, OnErr};
 ghost use Rattle.flash_pages.specs.State.{State, Ext, page_at};
 ghost use Rattle.flash_pages.specs.Board.{View, Reads, Rose};
-ghost use Rattle.component_package.specs.Store.{slot_at};
+ghost use Rattle.component_package.specs.mote.Store.{page_of_slot, slot_at};
 ghost use Rattle.component_store.specs.Reader.{Keeps};
 
 use crate::piece::page_of;
@@ -14,7 +14,7 @@ const NO_PAGE: u8 = 255;
 
 /// A slot and the page of it that was read last. So bytes that are read in order cost each page one read.
 #[derive(Drop)]
-pub(crate) struct SlotReader {
+pub struct SlotReader {
     pub(crate) slot: u8,
     pub(crate) page: u8,
     pub(crate) bytes: [u8; 256],
@@ -22,7 +22,7 @@ pub(crate) struct SlotReader {
 
 impl SlotReader {
     /// A reader that has read no page.
-    pub(crate) fn new(slot: u8) -> SlotReader
+    pub fn new(slot: u8) -> SlotReader
         ensures slot { result.slot ≡ slot }
         ensures keeps { (s : State) → Keeps s result }
     {
@@ -37,7 +37,7 @@ impl SlotReader {
     fn turn<B: Board>(&mut self, board: &mut B, page: u8) -> Result<(), Failed>
         requires slot { self.old.slot < 32 }
         requires page { page < 39 }
-        ensures page { OnOk result ((s : State) → (B.view board.old).state ≡ Some s → Keeps s self.old → self.new.bytes ≡ page_at s (Ext (786 + 39 * self.old.slot + page))) }
+        ensures page { OnOk result ((s : State) → (B.view board.old).state ≡ Some s → Keeps s self.old → self.new.bytes ≡ page_at s (Ext (page_of_slot self.old.slot page))) }
         ensures keeps { OnOk result ((s : State) → (B.view board.old).state ≡ Some s → Keeps s self.old → Keeps s self.new) }
         ensures slot { self.new.slot ≡ self.old.slot }
         ensures reads { Reads (B.view board.old) (B.view board.new) }
@@ -64,7 +64,7 @@ impl SlotReader {
         requires page { page < 39 }
         requires within { at + length into.old ≤ 256 }
         ensures ok { OnOk result ((s : State) → (B.view board.old).state ≡ Some s → Keeps s self.old →
-            into.new ≡ take (length into.old) (drop at (page_at s (Ext (786 + 39 * self.old.slot + page))))) }
+            into.new ≡ take (length into.old) (drop at (page_at s (Ext (page_of_slot self.old.slot page))))) }
         ensures keeps { OnOk result ((s : State) → (B.view board.old).state ≡ Some s → Keeps s self.old → Keeps s self.new) }
         ensures slot { self.new.slot ≡ self.old.slot }
         ensures reads { Reads (B.view board.old) (B.view board.new) }

@@ -3,7 +3,7 @@
 ghost use Rattle.std.specs.Prelude.{◌≡◌, ◌≤◌, ◌<◌, IfOk, OnErr, OnOk, Some};
 ghost use Rattle.flash_pages.specs.State.{State};
 ghost use Rattle.flash_pages.specs.Board.{View, Reads, Rose};
-ghost use Rattle.component_package.specs.Reading.{total_of, raw_export, raw_reloc, field_span_of};
+ghost use Rattle.component_package.specs.packages.Reading.{total_of, raw_export, raw_reloc, field_span_of};
 ghost use Rattle.component_package.specs.Laws.{spanned_field};
 ghost use Rattle.component_store.specs.Reader.{IsUnder, held_package};
 

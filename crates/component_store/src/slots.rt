@@ -1,27 +1,28 @@
 //! The slots that a new release gets.
 
 ghost use Rattle.std.specs.Prelude.{◌≡◌, ◌↔◌, ◌++◌, ◌≤◌, ◌<◌, ◌==◌, ◌||◌, ℕ, IsTrue, List, map, take, length, is_some, unwrap_or};
-ghost use Rattle.component_package.specs.Manifest.{IsManifest, IsSlotManifest, IsManifestEntry, release_of, stored_of};
-ghost use Rattle.component_package.specs.Store.{is_same, is_same_entry, held_slot, is_taken, least_free, slots_for};
+ghost use Rattle.component_package.specs.packages.Manifest.{IsManifest, IsSlotManifest, IsManifestEntry, release_of, stored_of};
+ghost use Rattle.component_package.specs.mote.Store.{is_same, is_same_entry, held_slot, is_taken, least_free, slots_for};
 ghost use Rattle.component_store.specs.Slots.{used_slots};
 
 use component_package::{Entry, Manifest, SlotManifest};
 
-fn is_same(a: &[u8; 32], b: &[u8; 32]) -> bool
+// Whether two digests are the same.
+pub(crate) fn is_same(a: &[u8; 32], b: &[u8; 32]) -> bool
     ensures { IsTrue result ↔ (a.now ≡ b.now) }
 {
     a == b
 }
 
-// Whether two digests are the same.
+// The same, as the definition tells it.
 fn is_same_digest(a: &[u8; 32], b: &[u8; 32]) -> bool
     ensures { result ≡ is_same a.now b.now }
 {
     is_same(a, b)
 }
 
-// Whether two entries are equal in all four fields.
-fn is_same_entry(a: &Entry, b: &Entry) -> bool
+/// Whether two entries are equal in all four fields.
+pub fn is_same_entry(a: &Entry, b: &Entry) -> bool
     ensures { result ≡ is_same_entry a.now b.now }
 {
     a.component == b.component

@@ -2,7 +2,7 @@
 
 ghost use Rattle.std.specs.Prelude.{IfSome};
 ghost use Rattle.flash_pages.specs.Memory.{memory_view};
-ghost use Rattle.component_package.specs.Manifest.{IsSlotManifest};
+ghost use Rattle.component_package.specs.packages.Manifest.{IsSlotManifest};
 
 use super::*;
 use component_package::{SlotManifest, read_manifest, read_slot_pages};

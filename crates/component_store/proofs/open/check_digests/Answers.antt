@@ -1,8 +1,8 @@
 use Rattle.std.proofs.Common.{◌≡◌, ℕ, Bool, cond, Some, None, length, ap, ◌∙◌, rules}
 use Rattle.std.specs.Prelude.{not}
 use Rattle.flash_pages.proofs.Runs.{reads_reads}
-use Rattle.component_package.specs.Manifest.{stored_of}
-use Rattle.component_package.specs.Store.{slots_of, missing_at, Missing}
+use Rattle.component_package.specs.packages.Manifest.{stored_of}
+use Rattle.component_package.specs.mote.Store.{slots_of, missing_at, Missing}
 use Rattle.component_package.proofs.First.{first_fault-at, first_fault-more}
 use Rattle.component_store.proofs.OpenLemmas.{entry_of, is_entry, missing_is}
 use Rattle.component_store.proofs.open.check_digests.Goals as goal

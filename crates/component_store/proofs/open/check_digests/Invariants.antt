@@ -1,9 +1,9 @@
 use Rattle.std.proofs.Common.{◌≡◌, Some, None}
 use Rattle.flash_pages.specs.State.{State}
 use Rattle.flash_pages.specs.Board.{Reads}
-use Rattle.component_package.specs.Reading.{first_fault}
-use Rattle.component_package.specs.Manifest.{stored_of}
-use Rattle.component_package.specs.Store.{slots_of, missing_at}
+use Rattle.component_package.specs.packages.Reading.{first_fault}
+use Rattle.component_package.specs.packages.Manifest.{stored_of}
+use Rattle.component_package.specs.mote.Store.{slots_of, missing_at}
 use Rattle.component_store.proofs.open.check_digests.Given as goal
 
 abbrev pub invariant-loop-k : goal.invariant-loop-k

@@ -6,9 +6,9 @@ use Rattle.std.proofs.lemmas.Option.{same_Some, get_or_from_slice_get}
 use Rattle.flash_pages.proofs.Runs.{reads_reads}
 use Rattle.component_package.specs.declared.manifest.Entry.{Entry}
 use Rattle.component_package.specs.declared.part.Header.{Header}
-use Rattle.component_package.specs.Reading.{header_of, total_of, has_even_lengths}
-use Rattle.component_package.specs.Manifest.{Placed, stored_of}
-use Rattle.component_package.specs.Store.{slots_of, package_in, bad_package_at, BadPackage}
+use Rattle.component_package.specs.packages.Reading.{header_of, total_of, has_even_lengths}
+use Rattle.component_package.specs.packages.Manifest.{Placed, stored_of}
+use Rattle.component_package.specs.mote.Store.{slots_of, package_in, bad_package_at, BadPackage}
 use Rattle.component_package.proofs.First.{first_fault-at, first_fault-more}
 use Rattle.component_store.proofs.OpenLemmas.{no_entry, entry_of, is_entry, package_is, bad_is, set_or_kept, numbered}
 use Rattle.component_store.specs.Sets.{number_of_stored_fault}

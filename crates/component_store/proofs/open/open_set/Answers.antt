@@ -2,9 +2,9 @@ use Rattle.std.proofs.Common.{◌≡◌, Option, Err, List, length, refl, sym, a
 use Rattle.std.specs.Option.{option_or}
 use Rattle.flash_pages.proofs.Runs.{reads_reads}
 use Rattle.component_package.specs.declared.part.Header.{Header}
-use Rattle.component_package.specs.Reading.{first_fault}
-use Rattle.component_package.specs.Manifest.{stored_of}
-use Rattle.component_package.specs.Store.{slots_of, set_fault, missing_at, bad_package_at, SetFault}
+use Rattle.component_package.specs.packages.Reading.{first_fault}
+use Rattle.component_package.specs.packages.Manifest.{stored_of}
+use Rattle.component_package.specs.mote.Store.{slots_of, set_fault, missing_at, bad_package_at, SetFault}
 use Rattle.component_store.specs.declared.set.StoredSet.{StoredSet}
 use Rattle.component_store.specs.Sets.{SetFaultIs}
 use Rattle.component_store.proofs.SlotLemmas.{pairs_at_most}

@@ -3,7 +3,7 @@ use Rattle.flash_pages.proofs.Runs.{reads_reads}
 use Rattle.std.proofs.lemmas.List.{length-take-le}
 use Rattle.sha2.specs.Sha256.{sha256}
 use Rattle.sha2.specs.Hashers.{Holds256}
-use Rattle.component_package.specs.Store.{slot_at}
+use Rattle.component_package.specs.mote.Store.{slot_at}
 use Rattle.component_package.proofs.StoredLemmas.{take_further}
 use Rattle.component_store.proofs.package.check.Goals as goal
 

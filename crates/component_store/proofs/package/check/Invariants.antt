@@ -2,7 +2,7 @@ use Rattle.std.proofs.Common.{◌≡◌, ◌*◌, Some, length, take}
 use Rattle.flash_pages.specs.State.{State}
 use Rattle.flash_pages.specs.Board.{Reads}
 use Rattle.sha2.specs.Hashers.{Holds256}
-use Rattle.component_package.specs.Store.{slot_at}
+use Rattle.component_package.specs.mote.Store.{slot_at}
 use Rattle.component_store.specs.Reader.{Keeps}
 use Rattle.component_store.proofs.package.check.Given as goal
 

@@ -2,7 +2,7 @@ use Rattle.std.proofs.Common.{◌≡◌, ℕ, ◌<◌, List, None, Ok, Err, ap, 
 use Rattle.std.specs.Option.{option_map}
 use Rattle.flash_pages.proofs.Runs.{reads_reads}
 use Rattle.component_package.specs.declared.part.Header.{Header}
-use Rattle.component_package.specs.Reading.{header_of, raw_export, export_fault, first_fault}
+use Rattle.component_package.specs.packages.Reading.{header_of, raw_export, export_fault, first_fault}
 use Rattle.component_package.proofs.First.{first_fault-at, first_fault-more}
 use Rattle.component_package.proofs.Steps.{export_fault_is, symbol_after}
 use Rattle.component_store.specs.declared.set.StoreFault.TheVariants.{Package}

@@ -1,7 +1,7 @@
 use Rattle.std.proofs.Common.{◌≡◌, Some, None}
 use Rattle.flash_pages.specs.State.{State}
 use Rattle.flash_pages.specs.Board.{Reads}
-use Rattle.component_package.specs.Reading.{export_fault, symbol_before, first_fault}
+use Rattle.component_package.specs.packages.Reading.{export_fault, symbol_before, first_fault}
 use Rattle.component_store.specs.Reader.{IsUnder, held_package}
 use Rattle.component_store.proofs.package.check_exports.Given as goal
 

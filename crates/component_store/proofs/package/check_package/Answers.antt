@@ -2,7 +2,7 @@ use Rattle.std.proofs.Common.{◌≡◌, ℕ, true, false, List, refl, sym, ap, 
 use Rattle.std.specs.Option.{option_map}
 use Rattle.flash_pages.proofs.Runs.{reads_reads}
 use Rattle.component_package.specs.declared.part.Header.{Header}
-use Rattle.component_package.specs.Reading.{header_of, header_fault, total_of}
+use Rattle.component_package.specs.packages.Reading.{header_of, header_fault, total_of}
 use Rattle.component_store.specs.declared.set.StoreFault.TheVariants.{Package}
 use Rattle.component_store.specs.Reader.{IsUnder, held_bytes, held_package}
 use Rattle.component_store.specs.Packages.{records_fault}

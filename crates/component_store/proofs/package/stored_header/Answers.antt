@@ -1,6 +1,6 @@
 use Rattle.std.proofs.Common.{List, ℕ, sym, ap, ◌∙◌}
 use Rattle.std.specs.Option.{option_map}
-use Rattle.component_package.specs.Reading.{header_fault}
+use Rattle.component_package.specs.packages.Reading.{header_fault}
 use Rattle.component_store.specs.declared.set.StoreFault.TheVariants.{Package}
 use Rattle.component_store.proofs.package.stored_header.Goals as goal
 

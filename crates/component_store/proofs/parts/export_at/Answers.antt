@@ -2,8 +2,8 @@ use Rattle.std.proofs.Common.{◌≡◌, ℕ, ◌<◌, List, Some, None, sym, ap
 use Rattle.std.specs.Prelude.{slice_get}
 use Rattle.component_package.specs.declared.part.Export.{Export}
 use Rattle.component_package.specs.declared.part.Header.{Header}
-use Rattle.component_package.specs.Component.{Component}
-use Rattle.component_package.specs.Reading.{header_of, check_export_of, export_of, raw_export, export_fault, symbol_before}
+use Rattle.component_package.specs.packages.Component.{Component}
+use Rattle.component_package.specs.packages.Reading.{header_of, check_export_of, export_of, raw_export, export_fault, symbol_before}
 use Rattle.component_package.proofs.Lists.{slice_get-list_of}
 use Rattle.component_package.proofs.Spelled.{faultless}
 use Rattle.component_store.specs.Reader.{IsUnder, held_package}

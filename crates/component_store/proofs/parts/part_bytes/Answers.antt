@@ -3,9 +3,9 @@ use Rattle.std.proofs.lemmas.List.{take_all, drop-drop, length-take-le, length-d
 use Rattle.std.proofs.lemmas.Slice.{take-put_mid}
 use Rattle.flash_pages.proofs.Runs.{reads_reads}
 use Rattle.component_package.specs.declared.part.Header.{Header}
-use Rattle.component_package.specs.Component.{Component}
-use Rattle.component_package.specs.Reading.{total_of}
-use Rattle.component_package.specs.Store.{slot_at}
+use Rattle.component_package.specs.packages.Component.{Component}
+use Rattle.component_package.specs.packages.Reading.{total_of}
+use Rattle.component_package.specs.mote.Store.{slot_at}
 use Rattle.component_package.proofs.StoredLemmas.{take_further}
 use Rattle.component_store.specs.Reader.{held_package}
 use Rattle.component_store.specs.Sets.{header_at, part_of}

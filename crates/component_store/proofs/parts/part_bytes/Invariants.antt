@@ -1,7 +1,7 @@
 use Rattle.std.proofs.Common.{◌≡◌, ◌≤◌, ◌-◌, Some, length, take, drop, get_or}
 use Rattle.flash_pages.specs.State.{State}
 use Rattle.flash_pages.specs.Board.{Reads}
-use Rattle.component_package.specs.Store.{slot_at}
+use Rattle.component_package.specs.mote.Store.{slot_at}
 use Rattle.component_store.specs.Reader.{Keeps}
 use Rattle.component_store.proofs.parts.part_bytes.Given as goal
 

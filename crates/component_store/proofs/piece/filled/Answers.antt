@@ -1,7 +1,7 @@
 use Rattle.std.proofs.Common.{◌≡◌, ℕ, ◌+◌, ◌-◌, ◌≤◌, ◌++◌, List, length, take, drop, replicate, sym, ap, ap₂, ◌∙◌, arith}
 use Rattle.std.proofs.lemmas.List.{drop-replicate, take-replicate}
 use Rattle.std.proofs.Math.Seq.{take-append-add}
-use Rattle.component_package.specs.FirstMachine.{filled_page}
+use Rattle.component_package.specs.mote.Page.{filled_page}
 use Rattle.component_store.proofs.piece.filled.Goals as goal
 
 filled_is : (b : List ℕ) → length b ≤ 256 → b ++ drop (length b) (replicate 256 255) ≡ filled_page b

@@ -1,10 +1,19 @@
 use Rattle.std.proofs.Common.{◌≡◌, ℕ, ◌<◌, List, None, length, sym, ap, ap₂, ◌∙◌, set}
 use Rattle.std.proofs.lemmas.Option.{same_Some}
-use Rattle.flash_pages.specs.State.{State}
-use Rattle.component_package.specs.Store.{slots_of}
-use Rattle.component_store.specs.Pieces.{piece_fault}
+use Rattle.flash_pages.specs.State.{State, always}
+use Rattle.flash_pages.proofs.Runs.{programs_needed}
+use Rattle.component_package.specs.mote.Store.{slots_of}
+use Rattle.component_store.specs.Pieces.{piece_fault, IsPiece}
 use Rattle.component_store.proofs.SlotBytes.{piece_put, page_below}
 use Rattle.component_store.proofs.piece.put_piece.Goals as goal
+
+pub returns-in_default-ext_program-clause-programs : goal.returns-in_default-ext_program-clause-programs
+returns-in_default-ext_program-clause-programs g c =
+    rw (← c.page_of.ensures.page) (programs_needed always (IsPiece c.args.size c.args.page (length c.args.bytes.now)) _ _ _ (λ s told. sym c.piece_fault.ensures ∙ c.in_default.is) c.ext_program.ensures.programs)
+
+pub returns-clause-programs : goal.returns-clause-programs
+returns-clause-programs g c =
+    rw (← c.page_of.ensures.page) (programs_needed always (IsPiece c.args.size c.args.page (length c.args.bytes.now)) _ _ _ (λ s told. sym c.piece_fault.ensures ∙ c.in_default.is) c.ext_program.ensures.programs)
 
 pub returns-clause-slots : goal.returns-clause-slots
 returns-clause-slots g c = λ s x told after.

@@ -1,6 +1,6 @@
 use Rattle.std.proofs.Common.{ℕ, ◌+◌, ◌*◌, List, ap, ◌∙◌, arith, slice_range}
 use Rattle.component_package.specs.declared.part.Header.{Header}
-use Rattle.component_package.specs.Reading.{exports_at, total_of}
+use Rattle.component_package.specs.packages.Reading.{exports_at, total_of}
 use Rattle.component_store.specs.Reader.{held_package}
 use Rattle.component_store.proofs.HeldLemmas.{held_slice}
 use Rattle.component_store.proofs.records.export_raw.Goals as goal

@@ -1,8 +1,8 @@
 use Rattle.std.proofs.Common.{◌≡◌, ℕ, ◌+◌, ◌≤◌, ◌++◌, List, length, replicate, take, drop, ap, ap₂, ◌∙◌, rules, slice_range}
 use Rattle.std.proofs.lemmas.List.{length-take-le, drop-replicate}
-use Rattle.component_package.specs.Store.{slot_at}
+use Rattle.component_package.specs.mote.Store.{slot_at}
 use Rattle.component_package.specs.declared.part.Header.{Header}
-use Rattle.component_package.specs.Reading.{total_of}
+use Rattle.component_package.specs.packages.Reading.{total_of}
 use Rattle.component_package.specs.Laws.{spanned_field}
 use Rattle.component_store.specs.Reader.{held_package}
 use Rattle.component_store.proofs.HeldLemmas.{held_slice}

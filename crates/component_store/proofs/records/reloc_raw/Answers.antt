@@ -1,6 +1,6 @@
 use Rattle.std.proofs.Common.{ℕ, ◌+◌, ◌*◌, List, ap, ◌∙◌, arith, slice_range}
 use Rattle.component_package.specs.declared.part.Header.{Header}
-use Rattle.component_package.specs.Reading.{relocs_at, total_of}
+use Rattle.component_package.specs.packages.Reading.{relocs_at, total_of}
 use Rattle.component_store.specs.Reader.{held_package}
 use Rattle.component_store.proofs.HeldLemmas.{held_slice}
 use Rattle.component_store.proofs.records.reloc_raw.Goals as goal

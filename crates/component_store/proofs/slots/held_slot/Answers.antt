@@ -3,8 +3,8 @@ use Rattle.std.specs.Prelude.{find}
 use Rattle.std.specs.Option.{option_map}
 use Rattle.std.proofs.lemmas.List.{take_all}
 use Rattle.component_package.specs.declared.manifest.Entry.{Entry}
-use Rattle.component_package.specs.Manifest.{Placed, stored_of}
-use Rattle.component_package.specs.Store.{is_same_entry}
+use Rattle.component_package.specs.packages.Manifest.{Placed, stored_of}
+use Rattle.component_package.specs.mote.Store.{is_same_entry}
 use Rattle.component_package.proofs.StoredLemmas.{pair_at, the_placed}
 use Rattle.component_store.proofs.SlotLemmas.{find_at, find_more, pairs_at_most}
 use Rattle.component_store.proofs.slots.held_slot.Goals as goal

@@ -1,7 +1,7 @@
 use Rattle.std.proofs.Common.{◌≡◌, None, take}
 use Rattle.std.specs.Prelude.{find}
-use Rattle.component_package.specs.Manifest.{stored_of}
-use Rattle.component_package.specs.Store.{is_same_entry}
+use Rattle.component_package.specs.packages.Manifest.{stored_of}
+use Rattle.component_package.specs.mote.Store.{is_same_entry}
 use Rattle.component_store.proofs.slots.held_slot.Given as goal
 
 abbrev pub invariant-loop-i : goal.invariant-loop-i

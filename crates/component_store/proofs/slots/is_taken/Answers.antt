@@ -1,6 +1,6 @@
 use Rattle.std.proofs.Common.{◌≡◌, Bool, true, false, List, ℕ, sym, ap, ◌∙◌}
 use Rattle.std.specs.Prelude.{◌||◌}
-use Rattle.component_package.specs.Store.{is_taken}
+use Rattle.component_package.specs.mote.Store.{is_taken}
 use Rattle.component_store.specs.Slots.{used_slots}
 use Rattle.component_store.proofs.slots.is_taken.Goals as goal
 

@@ -1,7 +1,7 @@
 use Rattle.std.proofs.Common.{◌≡◌, ℕ, ◌++◌, true, false, sym, ◌∙◌, arith, below_more}
 use Rattle.std.proofs.lemmas.List.Folds.{list_any-append}
 use Rattle.std.proofs.Common.{eqb}
-use Rattle.component_package.specs.Store.{is_taken}
+use Rattle.component_package.specs.mote.Store.{is_taken}
 use Rattle.component_store.specs.Slots.{used_slots}
 use Rattle.component_store.proofs.SlotLemmas.{free_at, none_free}
 use Rattle.component_store.proofs.slots.least_free.Goals as goal

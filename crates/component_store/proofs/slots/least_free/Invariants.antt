@@ -1,5 +1,5 @@
 use Rattle.std.proofs.Common.{◌≡◌, ℕ, ◌<◌, ◌++◌, true}
-use Rattle.component_package.specs.Store.{is_taken}
+use Rattle.component_package.specs.mote.Store.{is_taken}
 use Rattle.component_store.specs.Slots.{used_slots}
 use Rattle.component_store.proofs.slots.least_free.Given as goal
 

@@ -3,8 +3,8 @@ use Rattle.std.specs.List.{zip}
 use Rattle.std.proofs.lemmas.List.{take_more_set, take_more, length-set}
 use Rattle.component_package.specs.declared.manifest.Entry.{Entry}
 use Rattle.component_package.specs.declared.manifest.SlotManifest.{SlotManifest}
-use Rattle.component_package.specs.Manifest.{Placed, StoredRelease, IsStored, stored_of, release_of}
-use Rattle.component_package.specs.Store.{placed_from, slots_for}
+use Rattle.component_package.specs.packages.Manifest.{Placed, StoredRelease, IsStored, stored_of, release_of}
+use Rattle.component_package.specs.mote.Store.{placed_from, slots_for}
 use Rattle.component_package.proofs.StoredLemmas.{the_placed}
 use Rattle.mote_laws.proofs.Slots.{slots_are_found}
 use Rattle.component_store.specs.Slots.{used_slots}

@@ -1,6 +1,6 @@
 use Rattle.std.proofs.Common.{◌≡◌, take, map, length}
-use Rattle.component_package.specs.Manifest.{stored_of}
-use Rattle.component_package.specs.Store.{placed_from}
+use Rattle.component_package.specs.packages.Manifest.{stored_of}
+use Rattle.component_package.specs.mote.Store.{placed_from}
 use Rattle.component_store.specs.Slots.{used_slots}
 use Rattle.component_store.proofs.slots.slot_for.Given as goal
 
