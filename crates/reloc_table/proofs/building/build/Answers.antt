@@ -1,0 +1,138 @@
+use Rattle.std.proofs.Common.{◌≡◌, ℕ, ◌+◌, ◌*◌, List, drop, refl, ap, ◌∙◌, subst, arith}
+use Rattle.std.proofs.lemmas.List.{drop-drop}
+use Rattle.flash_pages.proofs.Runs.{uses_uses, weaker}
+use Rattle.component_package.specs.declared.part.Site.{Site}
+use Rattle.component_package.specs.packages.Component.{Component}
+use Rattle.component_package.specs.link.Link.{sites_of}
+use Rattle.component_package.specs.link.Areas.{list_bytes}
+use Rattle.component_package.specs.link.Pages.{in_image_order, listed}
+use Rattle.component_store.proofs.Calls.{reads_none}
+use Rattle.symbol_merge.specs.Stored.{set_in}
+use Rattle.reloc_table.specs.Order.{rest_of}
+use Rattle.reloc_table.specs.Written.{OnlyList, in_pages}
+use Rattle.reloc_table.proofs.Only.{only_list_starts, only_list_next, same_slots_hold, slots_stay}
+use Rattle.reloc_table.proofs.Written.{HoldsFirst, told_wears, each_read, once_read, wear_read, each_program, once_program, wear_program, spares_next, pass_next, holds_next, passed_none, wears_in, wears_other}
+use Rattle.reloc_table.proofs.Listing.{pages_count}
+use Rattle.reloc_table.proofs.Steps.{target, set_stays, reader_stays, reader_stayed, page_is, list_is}
+use Rattle.reloc_table.proofs.building.build.Goals as goal
+
+pub loop-page-init : goal.loop-page-init
+loop-page-init g c = record {
+  inside = omega arith;
+  within = c.new-cursor.ensures.within c.args.set.now;
+  uses = (reads_none (g.B.Board.view c.args.board.now)).uses;
+  fault = refl;
+  pass = λ s told. passed_none 50 OnlyList s (g.B.Board.view c.args.board.now) (only_list_starts s) told;
+  keeps = λ s told holds. c.new-cursor.ensures.keeps s;
+  rest = λ s told holds. c.new-cursor.ensures.rest (set_in s c.args.set.now);
+  holds = λ s told holds table tells x now p lt. absurd (omega (arith, lt));
+  spares = λ s told holds table tells p lt free. absurd (omega (arith, lt));
+}
+
+pub returns-in_default-clause-each : goal.returns-in_default-clause-each
+returns-in_default-clause-each g c = λ s told. each_read 50 305 256 refl OnlyList only_list_next s _ (g.B.Board.view c.loop-page.board) (g.B.Board.view c.list_page.new.board) c.loop-page.page c.loop-page-test.true (c.loop-page.invariant.pass s told) c.list_page.ensures.reads
+
+pub returns-in_default-clause-once : goal.returns-in_default-clause-once
+returns-in_default-clause-once g c = told_wears _ _ _ (λ s told. once_read 50 305 256 refl OnlyList only_list_next s _ (g.B.Board.view c.loop-page.board) (g.B.Board.view c.list_page.new.board) c.loop-page.page c.loop-page-test.true (c.loop-page.invariant.pass s told) c.list_page.ensures.reads)
+
+pub returns-in_default-clause-wear : goal.returns-in_default-clause-wear
+returns-in_default-clause-wear g c = λ s told holds table tells.
+    let b : List ℕ = list_bytes (listed (set_in s c.args.set.now) table) in
+    wear_read 50 305 256 refl OnlyList only_list_next s _ (g.B.Board.view c.loop-page.board) (g.B.Board.view c.list_page.new.board) c.loop-page.page c.loop-page-test.true (c.loop-page.invariant.pass s told) c.list_page.ensures.reads
+    (in_pages 256 b) (pages_count b) (c.loop-page.invariant.spares s told holds table tells) told
+
+pub returns-in_default-program_if_different-clause-each : goal.returns-in_default-program_if_different-clause-each
+returns-in_default-program_if_different-clause-each g c = λ s told. each_program 50 305 256 refl OnlyList only_list_next s _ (g.B.Board.view c.loop-page.board) (g.B.Board.view c.list_page.new.board) c.loop-page.page c.loop-page-test.true (c.loop-page.invariant.pass s told) c.list_page.ensures.reads (g.B.Board.view c.program_if_different.new.board) c.list_page.new.page c.program_if_different.ensures.programs
+
+pub returns-in_default-program_if_different-clause-once : goal.returns-in_default-program_if_different-clause-once
+returns-in_default-program_if_different-clause-once g c = told_wears _ _ _ (λ s told. once_program 50 305 256 refl OnlyList only_list_next s _ (g.B.Board.view c.loop-page.board) (g.B.Board.view c.list_page.new.board) c.loop-page.page c.loop-page-test.true (c.loop-page.invariant.pass s told) c.list_page.ensures.reads (g.B.Board.view c.program_if_different.new.board) c.list_page.new.page c.program_if_different.ensures.programs)
+
+pub returns-in_default-program_if_different-clause-wear : goal.returns-in_default-program_if_different-clause-wear
+returns-in_default-program_if_different-clause-wear g c = λ s told holds table tells.
+    let set = c.args.set.now in
+    let pass = c.loop-page.invariant.pass s told in
+    let x = pass.run.end in
+    let sizes = (g.B.Board.view c.args.board.now).sizes s told in
+    let keeps_x = reader_stays s x c.loop-page.cursor.table pass.run.ends (c.loop-page.invariant.keeps s told holds) in
+    let holds_x = same_slots_hold s x set (slots_stay s x pass.run.ends) holds in
+    let bytes_are : c.list_page.new.page ≡ target (set_in s set) table c.loop-page.page =
+    page_is s sizes set c.args.plan.now c.requires.set c.rooms.ensures c.requires.plan c.requires.few holds table tells x pass.run.ends (λ (S : List Component). rest_of S c.loop-page.cursor) c.loop-page.page c.list_page.new.page c.loop-page-test.true
+    (c.loop-page.invariant.rest s told holds) (c.in-Ok.ensures.page x pass.run.told keeps_x holds_x) in
+    let b : List ℕ = list_bytes (listed (set_in s set) table) in
+    wear_program 50 305 256 refl OnlyList only_list_next s _ (g.B.Board.view c.loop-page.board) (g.B.Board.view c.list_page.new.board) c.loop-page.page c.loop-page-test.true (c.loop-page.invariant.pass s told) c.list_page.ensures.reads (g.B.Board.view c.program_if_different.new.board) c.list_page.new.page c.program_if_different.ensures.programs
+    (in_pages 256 b) (pages_count b) bytes_are (c.loop-page.invariant.spares s told holds table tells) told
+
+pub loop-page-preserved : goal.loop-page-preserved
+loop-page-preserved g c = record {
+  inside = omega (arith, c.loop-page-test.true);
+  within = c.in-Ok.ensures.within;
+  uses = uses_uses _ _ _ (uses_uses _ _ _ c.loop-page.invariant.uses c.list_page.ensures.reads.uses) c.program_if_different.ensures.programs.uses;
+  fault = c.in-Ok-program_if_different.ensures.faults ∙ c.in-Ok.ensures.faults ∙ c.loop-page.invariant.fault;
+  pass = λ s told. pass_next 50 305 256 refl OnlyList only_list_next s _ (g.B.Board.view c.loop-page.board) (g.B.Board.view c.list_page.new.board) c.loop-page.page c.loop-page-test.true (c.loop-page.invariant.pass s told) c.list_page.ensures.reads (g.B.Board.view c.program_if_different.new.board) c.list_page.new.page c.program_if_different.ensures.programs c.in-Ok-program_if_different.ensures.ok;
+  keeps = λ s told holds.
+      let set = c.args.set.now in
+      let pass = c.loop-page.invariant.pass s told in
+      let x = pass.run.end in
+      let sizes = (g.B.Board.view c.args.board.now).sizes s told in
+      let keeps_x = reader_stays s x c.loop-page.cursor.table pass.run.ends (c.loop-page.invariant.keeps s told holds) in
+      let holds_x = same_slots_hold s x set (slots_stay s x pass.run.ends) holds in
+      reader_stayed s x c.list_page.new.cursor.table pass.run.ends (c.in-Ok.ensures.keeps x pass.run.told keeps_x holds_x);
+  rest = λ s told holds.
+      let set = c.args.set.now in
+      let pass = c.loop-page.invariant.pass s told in
+      let x = pass.run.end in
+      let sizes = (g.B.Board.view c.args.board.now).sizes s told in
+      let keeps_x = reader_stays s x c.loop-page.cursor.table pass.run.ends (c.loop-page.invariant.keeps s told holds) in
+      let holds_x = same_slots_hold s x set (slots_stay s x pass.run.ends) holds in
+      let order : List Site = in_image_order (sites_of (set_in s set)) in
+      let said = c.in-Ok.ensures.rest x pass.run.told keeps_x holds_x in
+      let here : rest_of (set_in s set) c.list_page.new.cursor ≡ drop 32 (rest_of (set_in s set) c.loop-page.cursor) =
+      subst (λ (S : List Component). rest_of S c.list_page.new.cursor ≡ drop 32 (rest_of S c.loop-page.cursor)) (set_stays s x set pass.run.ends) said in
+      let e : 32 * c.loop-page.page + 32 ≡ 32 * (c.loop-page.page + 1) = omega arith in
+      here ∙ ap (drop 32) (c.loop-page.invariant.rest s told holds) ∙ drop-drop 32 (32 * c.loop-page.page) order ∙ ap (λ (n : ℕ). drop n order) e;
+  holds = λ s told holds table tells.
+      let set = c.args.set.now in
+      let pass = c.loop-page.invariant.pass s told in
+      let x = pass.run.end in
+      let sizes = (g.B.Board.view c.args.board.now).sizes s told in
+      let keeps_x = reader_stays s x c.loop-page.cursor.table pass.run.ends (c.loop-page.invariant.keeps s told holds) in
+      let holds_x = same_slots_hold s x set (slots_stay s x pass.run.ends) holds in
+      let bytes_are : c.list_page.new.page ≡ target (set_in s set) table c.loop-page.page =
+      page_is s sizes set c.args.plan.now c.requires.set c.rooms.ensures c.requires.plan c.requires.few holds table tells x pass.run.ends (λ (S : List Component). rest_of S c.loop-page.cursor) c.loop-page.page c.list_page.new.page c.loop-page-test.true
+      (c.loop-page.invariant.rest s told holds) (c.in-Ok.ensures.page x pass.run.told keeps_x holds_x) in
+      holds_next 50 305 256 refl OnlyList only_list_next s _ (g.B.Board.view c.loop-page.board) (g.B.Board.view c.list_page.new.board) c.loop-page.page c.loop-page-test.true (c.loop-page.invariant.pass s told) c.list_page.ensures.reads (g.B.Board.view c.program_if_different.new.board) c.list_page.new.page c.program_if_different.ensures.programs c.in-Ok-program_if_different.ensures.ok (omega arith)
+      (target (set_in s set) table) bytes_are (c.loop-page.invariant.holds s told holds table tells);
+  spares = λ s told holds table tells.
+      let set = c.args.set.now in
+      let pass = c.loop-page.invariant.pass s told in
+      let x = pass.run.end in
+      let sizes = (g.B.Board.view c.args.board.now).sizes s told in
+      let keeps_x = reader_stays s x c.loop-page.cursor.table pass.run.ends (c.loop-page.invariant.keeps s told holds) in
+      let holds_x = same_slots_hold s x set (slots_stay s x pass.run.ends) holds in
+      let bytes_are : c.list_page.new.page ≡ target (set_in s set) table c.loop-page.page =
+      page_is s sizes set c.args.plan.now c.requires.set c.rooms.ensures c.requires.plan c.requires.few holds table tells x pass.run.ends (λ (S : List Component). rest_of S c.loop-page.cursor) c.loop-page.page c.list_page.new.page c.loop-page-test.true
+      (c.loop-page.invariant.rest s told holds) (c.in-Ok.ensures.page x pass.run.told keeps_x holds_x) in
+      spares_next 50 305 256 refl OnlyList only_list_next s _ (g.B.Board.view c.loop-page.board) (g.B.Board.view c.list_page.new.board) c.loop-page.page c.loop-page-test.true (c.loop-page.invariant.pass s told) c.list_page.ensures.reads (g.B.Board.view c.program_if_different.new.board) c.list_page.new.page c.program_if_different.ensures.programs
+      (target (set_in s set) table) bytes_are (c.loop-page.invariant.spares s told holds table tells);
+}
+
+pub returns-clause-ok : goal.returns-clause-ok
+returns-clause-ok g c = λ s told holds table tells.
+    let set = c.args.set.now in
+    let pass = c.loop-page.invariant.pass s told in
+    let x = pass.run.end in
+    let sizes = (g.B.Board.view c.args.board.now).sizes s told in
+    let all : c.loop-page.page ≡ 256 = omega (arith, c.loop-page.invariant.inside, c.loop-page-test.false) in
+    list_is s sizes set c.args.plan.now c.requires.set c.rooms.ensures c.requires.plan c.requires.few holds table tells (g.B.Board.view c.loop-page.board) x pass.run.told
+    (subst (λ (n : ℕ). HoldsFirst 50 n x (target (set_in s set) table)) all (c.loop-page.invariant.holds s told holds table tells x pass.run.told))
+
+pub returns-clause-each : goal.returns-clause-each
+returns-clause-each g c = λ s told. let pass = c.loop-page.invariant.pass s told in weaker (OnlyList s) (OnlyList s) c.loop-page.page 256 _ (g.B.Board.view c.loop-page.board) c.loop-page.invariant.inside (λ x here. here) pass.run
+
+pub returns-clause-once : goal.returns-clause-once
+returns-clause-once g c = told_wears _ _ _ (λ s told. wears_in 50 305 c.loop-page.page _ (g.B.Board.view c.loop-page.board) (omega (arith, c.loop-page.invariant.inside)) (c.loop-page.invariant.pass s told).worn)
+
+pub returns-clause-wear : goal.returns-clause-wear
+returns-clause-wear g c = λ s told holds table tells.
+    let b : List ℕ = list_bytes (listed (set_in s c.args.set.now) table) in
+    wears_other 50 c.loop-page.page (in_pages 256 b) s _ (g.B.Board.view c.loop-page.board) told (omega (arith, c.loop-page.invariant.inside, pages_count b)) (c.loop-page.invariant.pass s told).worn (c.loop-page.invariant.spares s told holds table tells)

@@ -1,0 +1,16 @@
+//! Why a relocation list can't be built.
+
+use avr_reloc::RangeFault;
+
+/// Why relocations can't be listed. Components and relocations are counted from 0.
+#[derive(Clone, Copy, Debug, PartialEq, Eq)]
+pub enum BuildFault {
+    /// A call of the board failed.
+    Fault,
+    /// The packages have this many relocations together, which is above 8,192.
+    Relocations(u32),
+    /// A component, its relocation, and the symbol that it refers to, not weakly, and that has no address.
+    Undefined(u8, u16, u16),
+    /// A component, its relocation, and why the field can't hold the value.
+    Range(u8, u16, RangeFault),
+}
