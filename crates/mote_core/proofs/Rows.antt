@@ -1,45 +1,84 @@
--- END is the one frame that ends a session.
-use Rattle.std.proofs.Common.{◌≡◌, ℕ, List, Bool, true, false, ◌==◌, ◌&&◌, length, refl, arith, cond, slice_index, Option, Some, None}
-use Rattle.std.proofs.lemmas.Bool.Decides.{nat_tests}
-use Rattle.component_package.specs.declared.part.Header.{Header}
-use Rattle.component_package.specs.declared.fault.PackageFault.{PackageFault}
+-- The rows of the machine for the frames that are served, once the gates and the sides are known.
+use Rattle.std.proofs.Common.{◌≡◌, ℕ, Bool, true, false, cond, Option, Some, None, is_some, refl, sym, ap, ◌∙◌, subst}
+use Rattle.std.specs.Option.{option_map}
 use Rattle.component_package.specs.declared.answer.Answer.{Answer}
-use Rattle.component_package.specs.declared.answer.Answer.TheVariants.{BadFrame, NotYet, BadPiece, Piece, Booted, Ended}
-use Rattle.component_package.specs.Reading.{header_of}
-use Rattle.component_package.specs.Frames.{Frame, is_end}
-use Rattle.component_package.specs.FirstMachine.{Flash, answer_of, is_bad, boot_answer, piece_answer, slot_fault, slot_head, is_plain, is_piece}
+use Rattle.component_package.specs.declared.answer.Answer.TheVariants as answers
+use Rattle.component_package.specs.declared.manifest.SlotManifest.{SlotManifest}
+use Rattle.component_package.specs.packages.Manifest.{StoredRelease, stored_of}
+use Rattle.component_package.specs.mote.Frames.{Frame}
+use Rattle.component_package.specs.mote.Machine.{Mote, Step, step, refuses, unless_standing, commit_incoming, incoming_number, status_number}
+use Rattle.mote_laws.specs.Stands.{commit_frame}
+use Rattle.install_journal.specs.declared.standing.Standing.{Standing}
+use Rattle.install_journal.specs.Standing.{IsOfMote, incoming_of}
+use Rattle.mote_core.specs.Frames.{abort_frame, status_frame, number_of_incoming, number_of, stage_of}
 
-boot_goes_on : (o : Option PackageFault) (h : Header) → boot_answer o h ≡ Ended → ⊥
-boot_goes_on (Some fault) h e = cc
-boot_goes_on None h e = elim (is_plain h) as (λ b. cond b (Booted 1) NotYet ≡ Ended → ⊥) [ true ↦ λ q. cc | false ↦ λ q. cc ] e
+-- the number of the release that boots
+pub current_number : (t : Mote) (a : Standing) → IsOfMote t a → a.current.manifest.release ≡ t.current.number
+current_number t a is = ap (λ (m : StoredRelease). m.number) is.current
 
-piece_goes_on : (payload : List ℕ) → piece_answer payload ≡ Ended → ⊥
-piece_goes_on payload e = elim (is_piece payload) as (λ b. cond b (Piece 0 (slice_index payload 1)) BadPiece ≡ Ended → ⊥) [ true ↦ λ q. cc | false ↦ λ q. cc ] e
+pub incoming_is : (t : Mote) (a : Standing) (m : SlotManifest) → IsOfMote t a → a.incoming ≡ Some m → t.incoming ≡ Some (stored_of m)
+incoming_is t a m is coming = sym is.incoming ∙ ap (λ (o : Option SlotManifest). incoming_of (record a { incoming = o })) coming
 
--- by the tests
-only_end : (bad eight five two empty : Bool) (t : ℕ) (boot piece : Answer) → (boot ≡ Ended → ⊥) → (piece ≡ Ended → ⊥) → (bad ≡ false → eight ≡ true → empty ≡ true)
-    → cond bad (BadFrame t) (cond eight Ended (cond five boot (cond two piece NotYet))) ≡ Ended → (eight && empty) ≡ true
-only_end true eight five two empty t boot piece nb np h e = absurd (let q : ⊥ = cc in q)
-only_end false true five two empty t boot piece nb np h e = h refl refl
-only_end false false true two empty t boot piece nb np h e = absurd (nb e)
-only_end false false false true empty t boot piece nb np h e = absurd (np e)
-only_end false false false false empty t boot piece nb np h e = absurd (let q : ⊥ = cc in q)
+pub nothing_incoming : (t : Mote) (a : Standing) → IsOfMote t a → a.incoming ≡ None → t.incoming ≡ None
+nothing_incoming t a is coming = sym is.incoming ∙ ap (λ (o : Option SlotManifest). incoming_of (record a { incoming = o })) coming
 
-ends_it : (bad eight : Bool) (t : ℕ) (other : Answer) → bad ≡ false → eight ≡ true → cond bad (BadFrame t) (cond eight Ended other) ≡ Ended
-ends_it bad eight t other a b = rw (a, b) refl
+-- while a commit stands
+pub standing_row : (t : Mote) (x : Step) (n : ℕ) → t.standing ≡ true → n ≡ t.current.number → unless_standing t x ≡ refuses t (answers.Reboot n)
+standing_row t x n stands is = ap (λ (b : Bool). cond b (refuses t (answers.Reboot t.current.number)) x) stands ∙ ap (λ (k : ℕ). refuses t (answers.Reboot k)) (sym is)
 
-good_eight : (f : Frame) → is_bad f ≡ false → (f.kind == 8) ≡ true → (length f.payload == 0) ≡ true
-good_eight f a b = grind (arith, nat_tests)
+-- while none does
+pub resting_row : (t : Mote) (x : Step) → t.standing ≡ false → unless_standing t x ≡ x
+resting_row t x rests = ap (λ (b : Bool). cond b (refuses t (answers.Reboot t.current.number)) x) rests
 
-end_is_good : (f : Frame) → is_end f ≡ true → is_bad f ≡ false
-end_is_good f e = grind (arith, nat_tests)
+-- ABORT
+pub abort_row : (t : Mote) → t.standing ≡ false → step t abort_frame ≡ record { mote = record t { incoming = None; linked = false }; answer = answers.Aborted }
+abort_row t rests = resting_row t _ rests
 
-end_is_eight : (f : Frame) → is_end f ≡ true → (f.kind == 8) ≡ true
-end_is_eight f e = grind (arith, nat_tests)
+-- COMMIT
+pub commit_again : (t : Mote) (n : ℕ) → t.standing ≡ true → n ≡ t.current.number → step t commit_frame ≡ refuses t (answers.Committed n)
+commit_again t n stands is =
+    ap (λ (b : Bool). cond b (refuses t (answers.Committed t.current.number)) (commit_incoming t t.incoming)) stands ∙ ap (λ (k : ℕ). refuses t (answers.Committed k)) (sym is)
 
-pub ended-is_end : (flash : Flash) (f : Frame) → answer_of flash f ≡ Ended → is_end f ≡ true
-ended-is_end flash f e = only_end (is_bad f) (f.kind == 8) (f.kind == 5) (f.kind == 2) (length f.payload == 0) f.kind (boot_answer (slot_fault flash) (header_of (slot_head flash))) (piece_answer f.payload)
-    (boot_goes_on (slot_fault flash) (header_of (slot_head flash))) (piece_goes_on f.payload) (good_eight f) e
+commit_rests : (t : Mote) → t.standing ≡ false → step t commit_frame ≡ commit_incoming t t.incoming
+commit_rests t rests = ap (λ (b : Bool). cond b (refuses t (answers.Committed t.current.number)) (commit_incoming t t.incoming)) rests
 
-pub is_end-ended : (flash : Flash) (f : Frame) → is_end f ≡ true → answer_of flash f ≡ Ended
-is_end-ended flash f e = ends_it (is_bad f) (f.kind == 8) f.kind _ (end_is_good f e) (end_is_eight f e)
+pub commit_none : (t : Mote) → t.standing ≡ false → t.incoming ≡ None → step t commit_frame ≡ refuses t answers.NoManifest
+commit_none t rests none = commit_rests t rests ∙ ap (commit_incoming t) none
+
+pub commit_unlinked : (t : Mote) (m : StoredRelease) → t.standing ≡ false → t.incoming ≡ Some m → t.linked ≡ false → step t commit_frame ≡ refuses t answers.NotLinked
+commit_unlinked t m rests coming unlinked = commit_rests t rests ∙ ap (commit_incoming t) coming
+    ∙ ap (λ (b : Bool). cond b (record { mote = record t { current = m; incoming = None; linked = false; standing = true }; answer = answers.Committed m.number }) (refuses t answers.NotLinked)) unlinked
+
+pub commit_answer : (t : Mote) (m : StoredRelease) → t.standing ≡ false → t.incoming ≡ Some m → t.linked ≡ true → (step t commit_frame).answer ≡ answers.Committed m.number
+commit_answer t m rests coming linked = ap (λ (x : Step). x.answer) (commit_rests t rests ∙ ap (commit_incoming t) coming
+    ∙ ap (λ (b : Bool). cond b (record { mote = record t { current = m; incoming = None; linked = false; standing = true }; answer = answers.Committed m.number }) (refuses t answers.NotLinked)) linked)
+
+-- STATUS, by the release that boots, what comes in, and whether it is linked or a commit stands
+abbrev status_row : ℕ → Option StoredRelease → Bool → Bool → Answer
+status_row c o linked stands = answers.Status c (cond stands 0 (incoming_number o)) (cond stands 3 (cond linked 2 (cond (is_some o) 1 0)))
+
+row_is : (t : Mote) (a : Standing) → IsOfMote t a → status_row a.current.manifest.release (incoming_of a) a.image a.pending ≡ (step t status_frame).answer
+row_is t a is =
+    ap (λ (n : ℕ). status_row n (incoming_of a) a.image a.pending) (current_number t a is)
+    ∙ ap (λ (o : Option StoredRelease). status_row t.current.number o a.image a.pending) is.incoming
+    ∙ ap (λ (b : Bool). status_row t.current.number t.incoming b a.pending) is.linked
+    ∙ ap (λ (b : Bool). status_row t.current.number t.incoming t.linked b) is.standing
+
+pub status_standing : (t : Mote) (a : Standing) → IsOfMote t a → a.pending ≡ true → answers.Status a.current.manifest.release 0 3 ≡ (step t status_frame).answer
+status_standing t a is stands = sym (ap (λ (b : Bool). status_row a.current.manifest.release (incoming_of a) a.image b) stands) ∙ row_is t a is
+
+number_comes : (o : Option SlotManifest) → number_of_incoming o ≡ incoming_number (option_map stored_of o)
+number_comes None = refl
+number_comes (Some m) = refl
+
+some_comes : (o : Option SlotManifest) → is_some o ≡ is_some (option_map stored_of o)
+some_comes None = refl
+some_comes (Some m) = refl
+
+pub status_resting : (t : Mote) (a : Standing) → IsOfMote t a → a.pending ≡ false → answers.Status a.current.manifest.release (number_of a) (stage_of a) ≡ (step t status_frame).answer
+status_resting t a is rests =
+    ap (λ (n : ℕ). answers.Status a.current.manifest.release n (stage_of a)) (number_comes a.incoming)
+    ∙ ap (λ (n : ℕ). answers.Status a.current.manifest.release (incoming_number (incoming_of a)) n)
+    (ap (λ (b : Bool). cond b 3 (cond a.image 2 (cond (is_some a.incoming) 1 0))) rests ∙ ap (λ (b : Bool). cond a.image 2 (cond b 1 0)) (some_comes a.incoming))
+    ∙ sym (ap (λ (b : Bool). status_row a.current.manifest.release (incoming_of a) a.image b) rests)
+    ∙ row_is t a is

@@ -5,8 +5,9 @@ use Rattle.std.proofs.lemmas.Grind.{common_steps}
 use Rattle.std.proofs.Math.Seq.{take-append-add, take-append_seam, take-length, take-add}
 use borrow.Rule.Slice.PartMut.{put_mid, post_of}
 use Rattle.std.specs.Bool.{IsFalse}
-use Rattle.component_package.specs.Lines.{spaced}
-use Rattle.component_package.specs.Frames.{Frame, IsFrame, frame_bytes, IsPartial, is_too_long}
+use Rattle.avr_reloc.specs.Field.{AreBytes}
+use Rattle.component_package.specs.mote.Lines.{spaced}
+use Rattle.component_package.specs.mote.Frames.{Frame, IsFrame, frame_bytes, IsPartial, is_too_long}
 
 -- n more bytes were put behind the first a
 pub take-put_mid-more : (a n k : ℕ) (xs ys : List ℕ) → a ≤ length xs → n ≤ length ys
@@ -66,16 +67,16 @@ cut_payload head got left0 left1 left2 first n len least most is small e few f =
 
 -- a whole frame came
 pub whole_frame : (head into old left0 left1 left2 : List ℕ) (first n came : ℕ) → length head ≡ 3 → 3 ≤ first → first ≤ 3 → slice_index_or head 0 0 < 256 → slice_index_or head 1 0 < 256 → length into ≡ n
-    → n ≡ slice_index_or head 1 0 + slice_index_or head 2 0 * 256 → n ≤ 1024 → came ≡ n
+    → n ≡ slice_index_or head 1 0 + slice_index_or head 2 0 * 256 → n ≤ 1024 → came ≡ n → AreBytes (take n (into ++ old))
     → left0 ≡ take first head ++ left1 → left1 ≡ take came into ++ left2
     → let f : Frame = record { kind = slice_index_or head 0 0; payload = take n (into ++ old) } in (x : List ℕ) × (IsFrame f × (x ≡ []) × (left0 ≡ frame_bytes f ++ left2))
-whole_frame head into old left0 left1 left2 first n came len least most byte0 byte1 fills is small all e f =
+whole_frame head into old left0 left1 left2 first n came len least most byte0 byte1 fills is small all bytes e f =
     let three : first ≡ 3 = omega arith in
     let front : take n (into ++ old) ≡ into = rw (← fills) (take-append_seam into old) in
     let whole : take came into ≡ into = rw (all, ← fills) (take-length into) in
     let low_is : length into % 256 ≡ slice_index_or head 1 0 = omega arith in
     let high_is : length into / 256 ≡ slice_index_or head 2 0 = omega arith in
-    ([], (rw front (record { kind = byte0; short = omega arith }), refl, rw (front, low_is, high_is, e, f, whole, three, of_three head len) refl))
+    ([], (record { kind = byte0; short = rw front (omega arith); bytes = bytes }, refl, rw (front, low_is, high_is, e, f, whole, three, of_three head len) refl))
 
 pub rest_whole : (xs : List ℕ) (a : ℕ) → take (length xs - a) (drop a xs) ≡ drop a xs
 rest_whole xs a = rw (← length-drop a xs) (take-length (drop a xs))

@@ -1,159 +1,40 @@
--- One turn of a session, and one part of a session after another.
-use Rattle.std.proofs.Common.{◌≡◌, ◌≢◌, ℕ, ◌+◌, ◌<◌, ◌≤◌, List, [], ◌∷◌, ◌++◌, Bool, true, false, ◌==◌, ◌||◌, Option, None, Some, length, refl, sym, ap, ◌∙◌, arith, append_assoc, add-zero, subst, Ok}
+-- What a turn of a session does.
+use Rattle.std.proofs.Common.{◌==◌, ◌≡◌, ◌≢◌, ◌⊎◌, inl, inr, ⊎_elim, ℕ, ◌+◌, ◌<◌, ◌≤◌, Bool, true, false, ◌&&◌, ◌||◌, eqb, List, [], ◌∷◌, ◌++◌, length, take, Option, Some, None, IsTrue, Ok, refl, sym, ap, ◌∙◌, subst, arith, append_assoc}
+use Rattle.std.proofs.lemmas.Option.{same_Some}
+use Rattle.std.proofs.lemmas.Bool.{false≢true, eqb-true, and_parts, false_from_ne_true}
 use Rattle.std.proofs.lemmas.List.{append-nil, length-append}
-use Rattle.std.proofs.lemmas.Bool.Decides.{nat_tests}
-use Rattle.flash_pages.specs.State.{State}
-use Rattle.flash_pages.specs.Board.{View, Rose}
-use Rattle.component_package.specs.Lines.{line_of}
-use Rattle.component_package.specs.Frames.{Frame, IsFrame, frame_bytes, stream_of, OnlyLastEnds, has_end, is_end, IsPartial, is_too_long}
-use Rattle.component_package.specs.FirstMachine.{Flash, answer_of, after_frames, after_frame, after_answer, lines_of}
+use Rattle.std.proofs.lemmas.List.Sums.{sum_by-cons}
+use Rattle.flash_pages.specs.State.{State, SendsPart}
+use Rattle.flash_pages.specs.Board.{View, UsesLine, UsesFlash, Elapses}
+use Rattle.flash_pages.specs.Moments.{LeavesOnly}
+use Rattle.flash_pages.proofs.Runs.{starts, follows, weaker, at_end, call, sends}
 use Rattle.component_package.specs.declared.answer.Answer.{Answer}
-use Rattle.component_package.specs.declared.answer.Answer.TheVariants.{Ended}
+use Rattle.component_package.specs.declared.answer.Answer.TheVariants.{Ended, Unformatted}
+use Rattle.component_package.specs.mote.Lines.{line_of}
+use Rattle.std.proofs.lemmas.Bool.Decides.{nat_tests}
+use Rattle.component_package.specs.mote.Frames.{Frame, IsFrame, frame_bytes, IsPartial, is_too_long, has_end, is_end}
+use Rattle.component_package.specs.mote.Sides.{parts_of}
+use Rattle.component_package.specs.mote.Headline.{StandsFor}
+use Rattle.component_package.specs.mote.Machine.{Mote, step}
 use Rattle.mote_core.specs.declared.session.Next.{Next}
 use Rattle.mote_core.specs.declared.session.Next.TheVariants.{Frame as NextFrame, InputEnd, CutFrame, TooLong, Budget}
+use Rattle.mote_core.specs.Reading.{served_of, NextGives, ServesNext, frame_of}
 use Rattle.mote_core.specs.declared.session.Session.{Session}
-use Rattle.mote_core.specs.Flashes.{flash_of, with_flash, SendsBut}
-use Rattle.mote_core.specs.Reading.{served_of, NextGives, ServesNext}
-use Rattle.mote_core.specs.Parts.{Serves, Turns, Outcome}
-use Rattle.mote_core.specs.Running.{AllServed, OwesLast, status_of, TellsFaults, Runs}
-use Rattle.mote_core.proofs.Rows.{ended-is_end, is_end-ended}
+use Rattle.mote_core.specs.Sending.{SendsBut}
+use Rattle.mote_laws.specs.Runs.{is_served}
+use Rattle.mote_laws.proofs.Runs.{machine_is_total}
+use Rattle.session_laws.specs.History.{lines_from}
+use Rattle.session_laws.specs.Kept.{Works, Leaves}
+use Rattle.session_laws.specs.Sessions.{shown, LeftSince}
+use Rattle.session_laws.specs.Turns.{programs_of, all_programs_of, frames_of, IsTurn, LeavesTurn}
+use Rattle.mote_core.proofs.Ends.{ended_is_end}
+use Rattle.session_laws.proofs.Kept.{frames_leave}
+use Rattle.session_laws.proofs.Sessions.{works_and_sends}
+use Rattle.install_journal.specs.Steps.{parts, Stands}
+use Rattle.mote_core.specs.Serving.{Serves, LeavesWork, DoesWork}
+use Rattle.mote_core.specs.Running.{status_of, EndsWell, Goes, IsCalm, Ends, TurnOf}
 
--- no whole frame was read
-pub read_none : (served : ℕ) (s : State) (l rest : List ℕ) (new : View) (left : List ℕ) (status : ℕ)
-    → new.state ≡ Some s → new.left ≡ Some left → served ≤ 1000000 → l ≡ rest ++ left → IsPartial rest
-    → status ≢ 4 → (status ≢ 4 → status ≢ 5 → (status ≡ status_of served [] rest) × (status ≡ 0 → left ≡ []) × (status ≡ 2 → left ≡ []) × (status ≡ 7 → length rest ≡ 1))
-    → Turns served s l new (Some status)
-read_none served s l rest new left status told told_left room e p no_flash h = (
-  [],
-  rest,
-  [],
-  s,
-  left,
-  told,
-  told_left,
-  record {
-    few = omega arith;
-    read = e;
-    each = tt;
-    partial = p;
-    after_end = λ q. absurd (let x : ⊥ = cc in x);
-    lines = refl;
-    outcome = record {
-      well = λ a b. let k = h a b in record { served = record { sent = refl; flash = refl }; status_is = rw add-zero k.0; input = λ z _. k.1 z; cut = k.2; budget = k.3 };
-      line_fault = λ _. refl;
-      flash_fault = λ four. absurd (no_flash four);
-    };
-  },
-  λ q. absurd (let x : ⊥ = cc in x),
-)
-
--- one frame was read
-pub read_one : (served : ℕ) (s : State) (l : List ℕ) (f : Frame) (owed : List ℕ) (new : View) (x : State) (left : List ℕ) (status : Option ℕ)
-    → new.state ≡ Some x → new.left ≡ Some left → served < 1000000 → IsFrame f → l ≡ frame_bytes f ++ left → s.sent ++ line_of (answer_of (flash_of s) f) ≡ x.sent ++ owed
-    → Outcome status s (served + 1) (f ∷ []) [] owed x left → Turns served s l new status
-read_one served s l f owed new x left status told told_left room w e lines o =
-    let whole : stream_of (f ∷ []) ≡ frame_bytes f = append-nil (frame_bytes f) in
-    let line : lines_of (flash_of s) (f ∷ []) ≡ line_of (answer_of (flash_of s) f) = append-nil (line_of (answer_of (flash_of s) f)) in (
-      f ∷ [],
-      [],
-      owed,
-      x,
-      left,
-      told,
-      told_left,
-      record {
-        few = omega arith;
-        read = e ∙ ap (λ (xs : List ℕ). xs ++ left) (sym whole);
-        each = (w, (λ _. refl), tt);
-        partial = tt;
-        after_end = λ _. refl;
-        lines = ap (λ (xs : List ℕ). s.sent ++ xs) line ∙ lines;
-        outcome = o;
-      },
-      λ _. refl,
-    )
-
-stream_of-append : (fs gs : List Frame) → stream_of (fs ++ gs) ≡ stream_of fs ++ stream_of gs
-stream_of-append [] gs = refl
-stream_of-append (f ∷ fs) gs = rw (stream_of-append fs gs) (sym (append_assoc (frame_bytes f) (stream_of fs) (stream_of gs)))
-
-lines_of-append : (flash : Flash) (fs gs : List Frame) → lines_of flash (fs ++ gs) ≡ lines_of flash fs ++ lines_of (after_frames flash fs) gs
-lines_of-append flash [] gs = refl
-lines_of-append flash (f ∷ fs) gs = rw (lines_of-append (after_frame flash f) fs gs)
-    (sym (append_assoc (line_of (answer_of flash f)) (lines_of (after_frame flash f) fs) (lines_of (after_frames (after_frame flash f) fs) gs)))
-
-after_frames-append : (flash : Flash) (fs gs : List Frame) → after_frames flash (fs ++ gs) ≡ after_frames (after_frames flash fs) gs
-after_frames-append flash [] gs = refl
-after_frames-append flash (f ∷ fs) gs = after_frames-append (after_frame flash f) fs gs
-
-or_false : (a b : Bool) → (a || b) ≡ false → (a ≡ false) × (b ≡ false)
-or_false true b h = absurd (let q : ⊥ = cc in q)
-or_false false b h = (refl, h)
-
-no_end-head : (f : Frame) (fs : List Frame) → has_end (f ∷ fs) ≡ false → (is_end f ≡ false) × (has_end fs ≡ false)
-no_end-head f fs h = or_false (is_end f) (has_end fs) h
-
-has_end-append : (fs gs : List Frame) → has_end fs ≡ false → has_end (fs ++ gs) ≡ has_end gs
-has_end-append [] gs h = refl
-has_end-append (f ∷ fs) gs h = let k = no_end-head f fs h in rw (k.0) (has_end-append fs gs k.1)
-
-each-append : (fs gs : List Frame) → has_end fs ≡ false → OnlyLastEnds fs → OnlyLastEnds gs → OnlyLastEnds (fs ++ gs)
-each-append [] gs h a b = b
-each-append (f ∷ fs) gs h a b = let k = no_end-head f fs h in
-    (a.0, (λ q. absurd (let e : true ≡ false = sym q ∙ k.0 in cc)), each-append fs gs k.1 a.2 b)
-
-status_same : (count : ℕ) (fs gs : List Frame) (rest : List ℕ) → has_end fs ≡ has_end gs → status_of count fs rest ≡ status_of count gs rest
-status_same count fs gs rest e = rw e refl
-
-served_then : (s : State) (fs : List Frame) (x : State) (gs : List Frame) (owed : List ℕ) (y : State) → flash_of x ≡ after_frames (flash_of s) fs → AllServed x gs owed y → AllServed s (fs ++ gs) owed y
-served_then s fs x gs owed y e h = record { sent = h.sent; flash = rw (after_frames-append (flash_of s) fs gs, ← e) h.flash }
-
-owes_then : (s : State) (fs : List Frame) (x : State) (gs : List Frame) (owed : List ℕ) → flash_of x ≡ after_frames (flash_of s) fs → OwesLast x gs owed → OwesLast s (fs ++ gs) owed
-owes_then s fs x gs owed e h = record {
-  before = fs ++ h.before;
-  last = h.last;
-  are = ap (λ (k : List Frame). fs ++ k) h.are ∙ sym (append_assoc fs h.before (h.last ∷ []));
-  owes = h.owes ∙ ap (λ (f : Flash). line_of (answer_of f h.last)) (ap (λ (f : Flash). after_frames f h.before) e ∙ sym (after_frames-append (flash_of s) fs h.before));
-}
-
-outcome_then : (status : Option ℕ) (count : ℕ) (s : State) (fs : List Frame) (x : State) (gs : List Frame) (rest owed : List ℕ) (y : State) (left : List ℕ) → flash_of x ≡ after_frames (flash_of s) fs → has_end fs ≡ false
-    → Outcome status x count gs rest owed y left → Outcome status s count (fs ++ gs) rest owed y left
-outcome_then None count s fs x gs rest owed y left e none o = (served_then s fs x gs owed y e o.0, o.1, has_end-append fs gs none ∙ o.2)
-outcome_then (Some status) count s fs x gs rest owed y left e none o =
-    let ends : has_end (fs ++ gs) ≡ has_end gs = has_end-append fs gs none in
-    record {
-      well = λ a b. let h = o.well a b in record {
-        served = served_then s fs x gs owed y e h.served;
-        status_is = h.status_is ∙ sym (status_same count (fs ++ gs) gs rest ends);
-        input = λ z n. h.input z (sym ends ∙ n);
-        cut = h.cut;
-        budget = h.budget;
-      };
-      line_fault = λ five. o.line_fault five ∙ (ap (λ (f : Flash). after_frames f gs) e ∙ sym (after_frames-append (flash_of s) fs gs));
-      flash_fault = λ four. owes_then s fs x gs owed e (o.flash_fault four);
-    }
-
--- one part of a session after another
-pub Serves-then : (c1 c2 : ℕ) (s : State) (l : List ℕ) (fs : List Frame) (x : State) (mid : List ℕ) (gs : List Frame) (rest owed : List ℕ) (y : State) (left : List ℕ) (status : Option ℕ)
-    → Serves c1 s l fs [] [] x mid None → Serves c2 x mid gs rest owed y left status → Serves c2 s l (fs ++ gs) rest owed y left status
-Serves-then c1 c2 s l fs x mid gs rest owed y left status a b =
-    let served = a.outcome.0 in
-    let none : has_end fs ≡ false = a.outcome.2 in
-    let ends : has_end (fs ++ gs) ≡ has_end gs = has_end-append fs gs none in
-    let sent_is : s.sent ++ lines_of (flash_of s) fs ≡ x.sent = a.lines ∙ append-nil x.sent in
-    record {
-      few = b.few;
-      read = rw (a.read, b.read, stream_of-append fs gs) (sym (append_assoc (stream_of fs) (stream_of gs) (rest ++ left)));
-      each = each-append fs gs none a.each b.each;
-      partial = b.partial;
-      after_end = λ q. b.after_end (sym ends ∙ q);
-      lines = rw (lines_of-append (flash_of s) fs gs, ← append_assoc s.sent (lines_of (flash_of s) fs) (lines_of (after_frames (flash_of s) fs) gs), sent_is, ← served.flash) b.lines;
-      outcome = outcome_then status c2 s fs x gs rest owed y left served.flash none b.outcome;
-    }
-
-goes_false : (b : Bool) → (b ≡ true → ⊥) → b ≡ false
-goes_false true h = absurd (h refl)
-goes_false false h = refl
+-- ---- statuses
 
 -- the status that a reading ends a session with
 abbrev pub stop_of : Next → Option ℕ
@@ -190,154 +71,240 @@ status_long served rest a b c = rw (a, b, c) refl
 status_budget : (served : ℕ) (rest : List ℕ) → (length rest == 0) ≡ false → (served == 1000000) ≡ true → 7 ≡ status_of served [] rest
 status_budget served rest a b = rw (a, b) refl
 
--- what was read is no frame
-module _ (s : State) (l : List ℕ) (new : View) (told : new.state ≡ Some s) where
-  -- the reading ended the session
-  pub stops : (next : Next) (old_session session : Session) (payload : List ℕ) (status : ℕ)
-      → stop_of next ≡ Some status → ServesNext (Ok next) old_session session → served_of old_session ≤ 1000000
-      → (rest : List ℕ) × (left : List ℕ) × (new.left ≡ Some left) × NextGives (Ok next) payload l rest left → Turns (served_of old_session) s l new (Some status)
-  stops (NextFrame kind) old_session session payload status e v few r = absurd (let q : ⊥ = cc in q)
-  stops InputEnd old_session session payload status e v few r =
-      let zero : 0 ≡ status = some_inj 0 status e in
-      subst (λ (n : ℕ). Turns (served_of old_session) s l new (Some n)) zero
-      (read_none (served_of old_session) s l [] new r.1 0 told r.2 few (r.3.0 ∙ sym r.3.1) tt (λ z. absurd (omega arith)) (λ _ _. (refl, (λ _. r.3.1), (λ _. r.3.1), (λ z. absurd (omega arith)))))
-  stops CutFrame old_session session payload status e v few r =
-      let two : 2 ≡ status = some_inj 2 status e in
-      let whole : l ≡ r.0 ++ r.1 = r.3.0 ∙ (sym (append-nil r.0) ∙ ap (λ (xs : List ℕ). r.0 ++ xs) (sym r.3.1)) in
-      subst (λ (n : ℕ). Turns (served_of old_session) s l new (Some n)) two
-      (read_none (served_of old_session) s l r.0 new r.1 2 told r.2 few whole r.3.4 (λ z. absurd (omega arith))
-      (λ _ _. (status_cut (served_of old_session) r.0 (not_empty r.0 r.3.2) (is_no_number (served_of old_session) 1000000 v.0) r.3.3, (λ _. r.3.1), (λ _. r.3.1), (λ z. absurd (omega arith)))))
-  stops (TooLong n) old_session session payload status e v few r =
-      let three : 3 ≡ status = some_inj 3 status e in
-      subst (λ (n : ℕ). Turns (served_of old_session) s l new (Some n)) three
-      (read_none (served_of old_session) s l r.0 new r.1 3 told r.2 few r.3.0 r.3.4 (λ z. absurd (omega arith))
-      (λ _ _. (status_long (served_of old_session) r.0 (not_empty r.0 r.3.2) (is_no_number (served_of old_session) 1000000 v.0) r.3.3, (λ z. absurd (omega arith)), (λ z. absurd (omega arith)), (λ z. absurd (omega arith)))))
-  stops Budget old_session session payload status e v few r =
-      let seven : 7 ≡ status = some_inj 7 status e in
-      let one = single r.0 r.3.1 in
-      subst (λ (n : ℕ). Turns (served_of old_session) s l new (Some n)) seven
-      (read_none (served_of old_session) s l r.0 new r.1 7 told r.2 few r.3.0 one.0 (λ z. absurd (omega arith))
-      (λ _ _. (status_budget (served_of old_session) r.0 one.1 (is_number (served_of old_session) 1000000 (omega arith)), (λ z. absurd (omega arith)), (λ z. absurd (omega arith)), (λ _. r.3.1))))
+-- with the input ended, cut or past a frame, the status is by what was read
+pub stops_well : (next : Next) (before after : Session) (payload l rest left : List ℕ) (status : ℕ) → stop_of next ≡ Some status → ServesNext (Ok next) before after
+    → NextGives (Ok next) payload l rest left → EndsWell (served_of before + 0) [] rest left status
+stops_well (NextFrame kind) before after payload l rest left status stops serves gives = absurd (let q : ⊥ = cc in q)
+stops_well InputEnd before after payload l rest left status stops serves gives =
+    subst (EndsWell (served_of before + 0) [] rest left) (some_inj 0 status stops) (record {
+      status_is = rw gives.2 refl;
+      input = λ zero none. gives.1;
+      cut = λ two. absurd (omega arith);
+      budget = λ seven. absurd (omega arith);
+    })
+stops_well CutFrame before after payload l rest left status stops serves gives =
+    subst (EndsWell (served_of before + 0) [] rest left) (some_inj 2 status stops) (record {
+      status_is = status_cut (served_of before + 0) rest (not_empty rest gives.2) (is_no_number (served_of before + 0) 1000000 (omega (arith, serves.0))) gives.3;
+      input = λ zero none. gives.1;
+      cut = λ two. gives.1;
+      budget = λ seven. absurd (omega arith);
+    })
+stops_well (TooLong n) before after payload l rest left status stops serves gives =
+    subst (EndsWell (served_of before + 0) [] rest left) (some_inj 3 status stops) (record {
+      status_is = status_long (served_of before + 0) rest (not_empty rest gives.2) (is_no_number (served_of before + 0) 1000000 (omega (arith, serves.0))) gives.3;
+      input = λ zero none. absurd (omega arith);
+      cut = λ two. absurd (omega arith);
+      budget = λ seven. absurd (omega arith);
+    })
+stops_well Budget before after payload l rest left status stops serves gives =
+    subst (EndsWell (served_of before + 0) [] rest left) (some_inj 7 status stops) (record {
+      status_is = status_budget (served_of before + 0) rest (single rest gives.1).1 (is_number (served_of before + 0) 1000000 (omega (arith, serves.0, before.few)));
+      input = λ zero none. absurd (omega arith);
+      cut = λ two. absurd (omega arith);
+      budget = λ seven. gives.1;
+    })
 
-  -- a line fault ended the reading
-  pub lost : (served : ℕ) → served ≤ 1000000 → (rest : List ℕ) × (left : List ℕ) × (new.left ≡ Some left) × ((l ≡ rest ++ left) × IsPartial rest) → Turns served s l new (Some 5)
-  lost served few r = read_none served s l r.0 new r.1 5 told r.2 few r.3.0 r.3.1 (λ z. absurd (omega arith)) (λ a b. absurd (b refl))
+-- after END the status is 0
+pub end_well : (count : ℕ) (f : Frame) (left : List ℕ) → is_end f ≡ true → EndsWell count (f ∷ []) [] left 0
+end_well count f left ends = record {
+  status_is = rw ends refl;
+  input = λ zero none. absurd (let e : true ≡ false = sym (ap (λ (b : Bool). b || false) ends) ∙ none in cc);
+  cut = λ two. absurd (omega arith);
+  budget = λ seven. absurd (omega arith);
+}
+
+-- ---- turns
+
+-- no frame was read
+pub turn_none : (count : ℕ) (status : Option ℕ) (old new : View) (z : State) (l rest left : List ℕ) (t : Mote) → (Goes status → ⊥) → old.state ≡ Some z → Stands z t
+    → new.state ≡ old.state → UsesLine (λ s x. x ≡ s) old new → new.left ≡ Some left → l ≡ rest ++ left → IsPartial rest → (count ≡ 1000000 → length rest ≤ 1)
+    → Ends count status [] rest left → TurnOf count status z l t old new
+turn_none count status old new z l rest left t over told stands same line told_left read partial one ends = record {
+  frame = None;
+  rest = rest;
+  left = left;
+  owed = [];
+  end = z;
+  told = same ∙ told;
+  told_left = told_left;
+  few = λ few. omega arith;
+  read = read;
+  each = tt;
+  partial = partial;
+  after_end = λ ends. absurd (let q : ⊥ = cc in q);
+  budget = λ all. one (omega arith);
+  most = 0;
+  bounded = omega arith;
+  leaves = call (λ x. x ≡ z) 0 (λ s x. x ≡ s) old new z z line.cut told (same ∙ told) refl (λ y is. is) (omega (arith, line.all_programs));
+  lines = refl;
+  served = λ goes. absurd (over goes);
+  went = λ goes. absurd (over goes);
+  exact = λ calm. (refl, stands.mote);
+  ended = ends;
+}
+
+-- END is answered by nothing
+end_answers : (t : Mote) (kind : ℕ) (payload : List ℕ) → kind ≡ 8 → eqb (length payload) 0 ≡ true → (step t (record { kind = kind; payload = payload })).answer ≡ Ended
+end_answers t kind payload is none = subst (λ (k : ℕ). (step t (record { kind = k; payload = payload })).answer ≡ Ended) (sym is) (at payload none)
+  where
+    at : (payload : List ℕ) → eqb (length payload) 0 ≡ true → (step t (record { kind = 8; payload = payload })).answer ≡ Ended
+    at [] none = refl
+    at (b ∷ bytes) none = absurd (let e = eqb-true (length (b ∷ bytes)) 0 none in omega arith)
+
+goes_no_end : (t : Mote) (f : Frame) → ((step t f).answer ≡ Ended → ⊥) → is_end f ≡ false
+goes_no_end t f other = false_from_ne_true (is_end f) (λ ends.
+    let parts = and_parts (eqb f.kind 8) (eqb (length f.payload) 0) ends in
+    other (end_answers t f.kind f.payload (eqb-true f.kind 8 parts.0) parts.1))
+
+-- a sound board is formatted
+pub never_unformatted : (f : Frame) (old new : View) (z : State) (t : Mote) (a : Answer) → old.state ≡ Some z → Stands z t → DoesWork f old new a → a ≡ Unformatted → ⊥
+never_unformatted f old new z t a told stands does is =
+    false≢true (ap is_served (sym is ∙ (does z t told stands).answer) ∙ machine_is_total.serves t f)
+
+-- what was sent is no part of what the flashes stand for
+pub stands_still : (y x : State) (m : Mote) → x.prog ≡ y.prog → x.ext ≡ y.ext → StandsFor (parts y) m → StandsFor (parts x) m
+stands_still y x m prog ext stands =
+    subst (λ (p : List (List ℕ)). StandsFor (parts_of p x.ext) m) (sym prog) (subst (λ (e : List (List ℕ)). StandsFor (parts_of y.prog e) m) (sym ext) stands)
+
+-- a frame was read, and serving it began from the same state
+module _ (count : ℕ) (old v1 : View) (z : State) (l left : List ℕ) (t : Mote) (f : Frame) (told : old.state ≡ Some z) (stands : Stands z t) (room : count < 1000000) (frame : IsFrame f)
+    (read : l ≡ frame_bytes f ++ left) (same : v1.state ≡ old.state) (line : UsesLine (λ s x. x ≡ s) old v1) where
+  abbrev W : State → Type 0
+  W x = Works t f (shown z) (shown x)
+
+  abbrev L : State → Type 0
+  L x = Leaves t f (shown z) (shown x)
+
+  -- the work, as from before the reading
+  work_run : (v2 : View) → LeavesWork f v1 v2 → LeavesOnly W (0 + programs_of f) old v2
+  work_run v2 works =
+      let here : W z = frames_leave.starts t f (shown z) stands.sound stands.mote in
+      follows W 0 (programs_of f) old v1 v2 (call W 0 (λ s x. x ≡ s) old v1 z z line.cut told (same ∙ told) here (λ y is. subst W (sym is) here) (omega (arith, line.all_programs)))
+      (weaker (Serves t f z) W (programs_of f) (programs_of f) v1 v2 (omega arith) (λ x serves. serves.works) (works z t (same ∙ told) stands))
+
+  one : (status : Option ℕ) (new : View) (x : State) (owed : List ℕ) → LeavesOnly L (0 + programs_of f) old new → new.state ≡ Some x → new.left ≡ Some left
+      → z.sent ++ line_of (step t f).answer ≡ x.sent ++ owed → (Goes status → is_end f ≡ false)
+      → (Goes status → (owed ≡ []) × StandsFor (parts x) (step t f).mote) → (IsCalm status → (owed ≡ []) × StandsFor (parts x) (step t f).mote) → Ends count status (f ∷ []) [] left
+      → TurnOf count status z l t old new
+  one status new x owed run told_new told_left lines no_end went exact ends = record {
+    frame = Some f;
+    rest = [];
+    left = left;
+    owed = owed;
+    end = x;
+    told = told_new;
+    told_left = told_left;
+    few = λ few. omega arith;
+    read = read ∙ ap (λ (b : List ℕ). b ++ left) (sym (append-nil (frame_bytes f)));
+    each = (frame, (λ ends. refl), tt);
+    partial = tt;
+    after_end = λ ends. refl;
+    budget = λ all. omega arith;
+    most = 0 + programs_of f;
+    leaves = run;
+    bounded = omega (arith, sum_by-cons programs_of f []);
+    lines = ap (λ (b : List ℕ). z.sent ++ b) (append-nil (line_of (step t f).answer)) ∙ lines;
+    served = λ goes. (f, refl, ap (λ (b : Bool). b || false) (no_end goes), refl);
+    went = went;
+    exact = exact;
+    ended = ends;
+  }
+
+  -- the work alone is no more than a frame leaves
+  works_leave : (v2 : View) → LeavesOnly W (0 + programs_of f) old v2 → LeavesOnly L (0 + programs_of f) old v2
+  works_leave v2 run = weaker W L (0 + programs_of f) (0 + programs_of f) old v2 (omega arith) (λ x. frames_leave.works t f (shown z) (shown x)) run
+
+  -- a fault came in the work
+  pub turn_fault : (v2 : View) → LeavesWork f v1 v2 → v2.left ≡ Some left → TurnOf count (Some 4) z l t old v2
+  turn_fault v2 works told_left =
+      let run = work_run v2 works in
+      one (Some 4) v2 run.end (line_of (step t f).answer) (works_leave v2 run) run.told told_left
+      (ap (λ (b : List ℕ). b ++ line_of (step t f).answer) (sym run.ends.sent)) (λ q. absurd cc) (λ q. absurd cc) (λ calm. absurd (calm.flash refl)) (λ n is calm. absurd (calm.flash refl))
+
+  -- it was END
+  pub turn_end : (v2 : View) (a : Answer) → a ≡ Ended → LeavesWork f v1 v2 → DoesWork f v1 v2 a → v2.left ≡ Some left → TurnOf count (Some 0) z l t old v2
+  turn_end v2 a ended works does told_left =
+      let run = work_run v2 works in
+      let d = does z t (same ∙ told) stands in
+      let w = at_end W (0 + programs_of f) old v2 d.end run d.told in
+      one (Some 0) v2 d.end [] (works_leave v2 run) d.told told_left
+      (ap (λ (b : Answer). z.sent ++ line_of b) (sym d.answer ∙ ended) ∙ ap (λ (b : List ℕ). b ++ []) (sym w.sent)) (λ q. absurd cc) (λ q. absurd cc) (λ calm. (refl, d.mote)) (λ n is calm. subst (EndsWell (count + 1) (f ∷ []) [] left) (some_inj 0 n is) (end_well (count + 1) f left (ended_is_end t f (sym d.answer ∙ ended))))
+
+  -- its line was sent, but for what is owed
+  module _ (v2 v3 : View) (a : Answer) (works : LeavesWork f v1 v2) (does : DoesWork f v1 v2 a) (told_left : v3.left ≡ Some left) (sends_line : UsesLine (SendsPart (line_of a)) v2 v3) where
+    leaves_line : (x : State) → v3.state ≡ Some x → LeavesOnly L (0 + programs_of f) old v3
+    leaves_line x told_x =
+        let run = work_run v2 works in
+        let d = does z t (same ∙ told) stands in
+        works_and_sends t f z d.end x (0 + programs_of f) old v2 v3 run d.told d.mote (subst (λ (b : Answer). UsesLine (SendsPart (line_of b)) v2 v3) d.answer sends_line) told_x
+
+    -- what was sent
+    lines_sent : (y x : State) (owed : List ℕ) → v2.state ≡ Some y → SendsBut owed (line_of a) y x → z.sent ++ line_of (step t f).answer ≡ x.sent ++ owed
+    lines_sent y x owed told_y sent =
+        let run = work_run v2 works in
+        let w = at_end W (0 + programs_of f) old v2 y run told_y in
+        let d = does z t (same ∙ told) stands in
+        ap (λ (b : Answer). z.sent ++ line_of b) (sym d.answer) ∙ ap (λ (b : List ℕ). b ++ line_of a) (sym w.sent) ∙ sent.sent
+
+    pub turn_cut : ((y : State) → v2.state ≡ Some y → (owed : List ℕ) × (x : State) × (v3.state ≡ Some x) × SendsBut owed (line_of a) y x)
+        → TurnOf count (Some 5) z l t old v3
+    turn_cut sent =
+        let d = does z t (same ∙ told) stands in
+        let r = sent d.end d.told in
+        let run = leaves_line r.1 r.2 in
+        one (Some 5) v3 r.1 r.0 run r.2 told_left (lines_sent d.end r.1 r.0 d.told r.3) (λ q. absurd cc) (λ q. absurd cc) (λ calm. absurd (calm.line refl)) (λ n is calm. absurd (calm.line refl))
+
+    pub turn_goes : (a ≡ Ended → ⊥) → ((y : State) → v2.state ≡ Some y → (owed : List ℕ) × (x : State) × (v3.state ≡ Some x) × SendsBut owed (line_of a) y x × (owed ≡ []))
+        → TurnOf count None z l t old v3
+    turn_goes other sent =
+        let d = does z t (same ∙ told) stands in
+        let r = sent d.end d.told in
+        let run = leaves_line r.1 r.2 in
+        let stands_now = stands_still d.end r.1 (step t f).mote r.3.prog r.3.ext d.mote in
+        one None v3 r.1 r.0 run r.2 told_left (lines_sent d.end r.1 r.0 d.told r.3) (λ q. goes_no_end t f (λ ended. other (d.answer ∙ ended))) (λ q. (r.4, stands_now)) (λ calm. (r.4, stands_now)) (λ n is calm. absurd cc)
+
+-- ---- a reading that gave no frame
+
+-- one byte at most where the budget was used up
+one_left : (count : ℕ) (l rest left : List ℕ) (new : View) → new.left ≡ Some left → l ≡ rest ++ left → (1000000 ≤ count → (n : List ℕ) × (new.left ≡ Some n) × (length l ≤ length n + 1))
+    → count ≡ 1000000 → length rest ≤ 1
+one_left count l rest left new told read most all =
+    let m = most (omega arith) in
+    let same : m.0 ≡ left = same_Some m.0 left (sym m.1 ∙ told) in
+    omega (arith, m.2, ap length same, ap length read, length-append rest left)
+
+partial_one : (xs : List ℕ) → length xs ≡ 1 → IsPartial xs
+partial_one [] one = absurd (omega arith)
+partial_one (x ∷ []) one = tt
+partial_one (x ∷ y ∷ xs) one = absurd (omega arith)
+
+-- what was read, and that it is no frame
+rest_read : (next : Next) (status : ℕ) (payload l rest left : List ℕ) → stop_of next ≡ Some status → NextGives (Ok next) payload l rest left → (l ≡ rest ++ left) × IsPartial rest
+rest_read (NextFrame kind) status payload l rest left stops gives = absurd (let q : ⊥ = cc in q)
+rest_read InputEnd status payload l rest left stops gives =
+    (gives.0 ∙ sym (ap (λ (b : List ℕ). b ++ left) gives.2 ∙ gives.1), subst IsPartial (sym gives.2) tt)
+rest_read CutFrame status payload l rest left stops gives =
+    (gives.0 ∙ sym (append-nil rest) ∙ ap (λ (b : List ℕ). rest ++ b) (sym gives.1), gives.4)
+rest_read (TooLong n) status payload l rest left stops gives = (gives.0, gives.4)
+rest_read Budget status payload l rest left stops gives = (gives.0, partial_one rest gives.1)
+
+-- a line fault ended the reading
+pub turn_lost : (count : ℕ) (old new : View) (z : State) (l : List ℕ) (t : Mote) → old.state ≡ Some z → Stands z t
+    → new.state ≡ old.state → UsesLine (λ s x. x ≡ s) old new → (1000000 ≤ count → (n : List ℕ) × (new.left ≡ Some n) × (length l ≤ length n + 1))
+    → (rest : List ℕ) × (left : List ℕ) × (new.left ≡ Some left) × ((l ≡ rest ++ left) × IsPartial rest) → TurnOf count (Some 5) z l t old new
+turn_lost count old new z l t told stands same line most r =
+    turn_none count (Some 5) old new z l r.0 r.1 t (λ q. absurd cc) told stands same line r.2 r.3.0 r.3.1 (one_left count l r.0 r.1 new r.2 r.3.0 most) (λ n is calm. absurd (calm.line refl))
 
 -- a whole frame was read
 pub framed : (next : Next) (kind : ℕ) (payload l : List ℕ) (new : View) → next ≡ NextFrame kind → (rest : List ℕ) × (left : List ℕ) × (new.left ≡ Some left) × NextGives (Ok next) payload l rest left
     → let f : Frame = record { kind = kind; payload = payload } in (left : List ℕ) × (new.left ≡ Some left) × IsFrame f × (l ≡ frame_bytes f ++ left)
 framed next kind payload l new e r = let h : NextGives (Ok (NextFrame kind)) payload l r.0 r.1 = rw e at r.3 in (r.1, r.2, h.0, h.2)
 
-module _ (served : ℕ) (s : State) (l : List ℕ) (f : Frame) (left : List ℕ) (room : served < 1000000) (frame : IsFrame f) (read : l ≡ frame_bytes f ++ left) where
-  -- a flash fault came
-  pub fault_serving : (new : View) (x : State) → new.state ≡ Some x → new.left ≡ Some left → x.sent ≡ s.sent → Turns served s l new (Some 4)
-  fault_serving new x told told_left same =
-      read_one served s l f (line_of (answer_of (flash_of s) f)) new x left (Some 4) told told_left room frame read (rw same refl)
-      (record { well = λ a b. absurd (a refl); line_fault = λ z. absurd (omega arith); flash_fault = λ _. record { before = []; last = f; are = refl; owes = refl } })
-
-  -- it was END
-  pub ends : (a : Answer) (new : View) → a ≡ Ended → a ≡ answer_of (flash_of s) f → new.state ≡ Some (with_flash s (after_answer a f.payload (flash_of s))) → new.left ≡ Some left → Turns served s l new (Some 0)
-  ends a new is_ended is told told_left =
-      let ended : answer_of (flash_of s) f ≡ Ended = sym is ∙ is_ended in
-      let end : is_end f ≡ true = ended-is_end (flash_of s) f ended in
-      let has : has_end (f ∷ []) ≡ true = rw end refl in
-      let same : new.state ≡ Some s = rw is_ended at told in
-      read_one served s l f [] new s left (Some 0) same told_left room frame read (rw ended refl)
-      (record {
-        well = λ _ _. record { served = record { sent = refl; flash = rw ended refl }; status_is = rw has refl; input = λ _ n. absurd (let q : true ≡ false = sym has ∙ n in cc); cut = λ z. absurd (omega arith); budget = λ z. absurd (omega arith) };
-        line_fault = λ z. absurd (omega arith);
-        flash_fault = λ z. absurd (omega arith);
-      })
-
-  module _ (a : Answer) (new : View) (x : State) (owed : List ℕ) (is : a ≡ answer_of (flash_of s) f) (told : new.state ≡ Some x) (told_left : new.left ≡ Some left)
-      (sent : SendsBut owed (line_of a) (with_flash s (after_answer a f.payload (flash_of s))) x) where
-    line : s.sent ++ line_of (answer_of (flash_of s) f) ≡ x.sent ++ owed
-    line = rw (← is) sent.sent
-
-    flash : flash_of x ≡ after_frame (flash_of s) f
-    flash = rw (← is) sent.flash
-
-    -- the line was cut by a line fault
-    pub fault_sending : Turns served s l new (Some 5)
-    fault_sending = read_one served s l f owed new x left (Some 5) told told_left room frame read line
-        (record { well = λ a b. absurd (b refl); line_fault = λ _. flash; flash_fault = λ z. absurd (omega arith) })
-
-    -- it was answered, and its line sent
-    pub goes_on : (a ≡ Ended → ⊥) → owed ≡ [] → Turns served s l new None
-    goes_on other none =
-        read_one served s l f owed new x left None told told_left room frame read line
-        (record { sent = none; flash = flash }, refl, rw (goes_false (is_end f) (λ q. other (is ∙ is_end-ended (flash_of s) f q))) refl)
-
--- a session, and then one turn
-pub run_then : (served : ℕ) (s : State) (l : List ℕ) (fs : List Frame) (x : State) (mid : List ℕ) (new : View) (status : Option ℕ)
-    → length fs ≡ served → Serves (length fs) s l fs [] [] x mid None → Turns served x mid new status
-    → (frames : List Frame) × (rest : List ℕ) × (owed : List ℕ) × (y : State) × (left : List ℕ) × (new.state ≡ Some y) × (new.left ≡ Some left)
-    × Serves (length frames) s l frames rest owed y left status × (status ≡ None → length frames ≡ served + 1)
-run_then served s l fs x mid new status len a t =
-    let count : served + length t.0 ≡ length (fs ++ t.0) = sym (length-append fs t.0 ∙ ap (λ n. n + length t.0) len) in
-    let d : Serves (served + length t.0) s l (fs ++ t.0) t.1 t.2 t.3 t.4 status = Serves-then (length fs) (served + length t.0) s l fs x mid t.0 t.1 t.2 t.3 t.4 status a t.7 in (
-      fs ++ t.0,
-      t.1,
-      t.2,
-      t.3,
-      t.4,
-      t.5,
-      t.6,
-      subst (λ (n : ℕ). Serves n s l (fs ++ t.0) t.1 t.2 t.3 t.4 status) count d,
-      λ e. sym count ∙ ap (λ (n : ℕ). served + n) (t.8 e),
-    )
-
-clean : (count : ℕ) (s : State) (l : List ℕ) (fs : List Frame) (rest owed : List ℕ) (y : State) (left : List ℕ) → rest ≡ [] → owed ≡ [] → Serves count s l fs rest owed y left None → Serves count s l fs [] [] y left None
-clean count s l fs rest owed y left a b d =
-    subst (λ (o : List ℕ). Serves count s l fs [] o y left None) b (subst (λ (r : List ℕ). Serves count s l fs r owed y left None) a d)
-
--- a session, and then one turn that goes on
-pub run_on : (served served' : ℕ) (s : State) (l : List ℕ) (fs : List Frame) (x : State) (mid : List ℕ) (new : View)
-    → length fs ≡ served → served' ≡ served + 1 → Serves (length fs) s l fs [] [] x mid None → Turns served x mid new None
-    → (frames : List Frame) × (y : State) × (left : List ℕ) × (length frames ≡ served') × (new.state ≡ Some y) × (new.left ≡ Some left) × Serves (length frames) s l frames [] [] y left None
-run_on served served' s l fs x mid new len next a t =
-    let r = run_then served s l fs x mid new None len a t in
-    (r.0, r.3, r.4, r.8 refl ∙ sym next, r.5, r.6, clean (length r.0) s l r.0 r.1 r.2 r.3 r.4 r.7.outcome.1 r.7.outcome.0.sent r.7)
-
--- a whole session: what was served, and the turn that ended it
-pub ran : (s : State) (l : List ℕ) (old new : View) (status served : ℕ) (fs : List Frame) (x : State) (mid : List ℕ) → TellsFaults status old new
-    → length fs ≡ served → Serves (length fs) s l fs [] [] x mid None → Turns served x mid new (Some status) → Runs s l old new status
-ran s l old new status served fs x mid faults len a t =
-    let r = run_then served s l fs x mid new (Some status) len a t in
-    record {
-      got = stream_of r.0 ++ r.1;
-      frames = r.0;
-      rest = r.1;
-      owed = r.2;
-      end = r.3;
-      left = r.4;
-      told = r.5;
-      told_left = r.6;
-      few = r.7.few;
-      read = r.7.read ∙ sym (append_assoc (stream_of r.0) r.1 r.4);
-      whole = record { whole = refl; each = r.7.each; rest_partial = r.7.partial; rest_after_end = r.7.after_end };
-      lines = r.7.lines;
-      ends = r.7.outcome;
-      calm = λ calm_flash calm_line. r.7.outcome.well (λ four. calm_flash (faults.flash four)) (λ five. calm_line (faults.line five));
-    }
-
--- a session that has read nothing
-pub begins : (s : State) (l : List ℕ) → Serves 0 s l [] [] [] s l None
-begins s l = record {
-  few = omega arith;
-  read = refl;
-  each = tt;
-  partial = tt;
-  after_end = λ q. absurd (let x : ⊥ = cc in x);
-  lines = refl;
-  outcome = (record { sent = refl; flash = refl }, refl, refl);
-}
-
--- the faults of what came after a part without faults
-pub faults_then : (status : ℕ) (old mid new : View) → mid.flash_faults ≡ old.flash_faults → mid.line_faults ≡ old.line_faults → TellsFaults status mid new → TellsFaults status old new
-faults_then status old mid new flash line t = record {
-  flash = λ four. subst (λ (n : ℕ). Rose n new.flash_faults) flash (t.flash four);
-  flash_kept = λ other. t.flash_kept other ∙ flash;
-  line = λ five. subst (λ (n : ℕ). Rose n new.line_faults) line (t.line five);
-  line_kept = λ other. t.line_kept other ∙ line;
-}
+-- the session ended with a reading that gave no frame
+pub turn_stopped : (next : Next) (before after : Session) (status : ℕ) (payload : List ℕ) (old new : View) (z : State) (l : List ℕ) (t : Mote) → stop_of next ≡ Some status → old.state ≡ Some z → Stands z t
+    → new.state ≡ old.state → UsesLine (λ s x. x ≡ s) old new → (1000000 ≤ served_of before → (n : List ℕ) × (new.left ≡ Some n) × (length l ≤ length n + 1)) → ServesNext (Ok next) before after
+    → (rest : List ℕ) × (left : List ℕ) × (new.left ≡ Some left) × NextGives (Ok next) payload l rest left → TurnOf (served_of before) (Some status) z l t old new
+turn_stopped next before after status payload old new z l t stops told stands same line most serves r =
+    let read = rest_read next status payload l r.0 r.1 stops r.3 in
+    turn_none (served_of before) (Some status) old new z l r.0 r.1 t (λ q. absurd cc) told stands same line r.2 read.0 read.1 (one_left (served_of before) l r.0 r.1 new r.2 read.0 most)
+    (λ n is calm. subst (EndsWell (served_of before + 0) [] r.0 r.1) (some_inj status n is) (stops_well next before after payload l r.0 r.1 status stops serves r.3))

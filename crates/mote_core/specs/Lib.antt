@@ -1,4 +1,9 @@
-pub mod Flashes
 pub mod Reading
+pub mod Sending
+pub mod Serving
+pub mod Frames
+pub mod Links
 pub mod Running
-pub mod Parts
+pub mod Commands
+pub mod Format
+pub mod Top

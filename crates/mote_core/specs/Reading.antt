@@ -4,8 +4,8 @@ use Rattle.flash_pages.specs.declared.board.Failed.{Failed}
 use Rattle.mote_core.specs.declared.session.Next.{Next}
 use Rattle.mote_core.specs.declared.session.Next.TheVariants.{Frame as NextFrame, InputEnd, CutFrame, TooLong, Budget}
 use Rattle.mote_core.specs.declared.session.Session.{Session}
-use Rattle.component_package.specs.Numbers.{u16_at}
-use Rattle.component_package.specs.Frames.{Frame, IsFrame, frame_bytes, IsPartial, is_too_long}
+use Rattle.component_package.specs.packages.Numbers.{u16_at}
+use Rattle.component_package.specs.mote.Frames.{Frame, IsFrame, frame_bytes, IsPartial, is_too_long}
 
 -- how many frames a session has read
 abbrev pub served_of : Session → ℕ

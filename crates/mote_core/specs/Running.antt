@@ -1,21 +1,15 @@
--- What a session does to its board, from the bytes that it reads.
-use Rattle.std.specs.Prelude.{◌≡◌, ◌≢◌, ℕ, ◌≤◌, List, [], ◌∷◌, ◌++◌, Bool, IsFalse, Some, ◌==◌, ◌||◌, if◌then◌else◌, codes, length}
+-- What a session does to its board, from the bytes that it reads: the headline as the contract of a call.
+use Rattle.std.specs.Prelude.{◌≡◌, ◌≢◌, ◌⊎◌, ℕ, ◌+◌, ◌≤◌, List, [], ◌∷◌, ◌++◌, Bool, false, ◌==◌, ◌||◌, if◌then◌else◌, Option, Some, None, length}
 use Rattle.flash_pages.specs.State.{State}
 use Rattle.flash_pages.specs.Board.{View, Rose}
-use Rattle.component_package.specs.Frames.{Frame, Frames, is_too_long, has_end}
-use Rattle.component_package.specs.FirstMachine.{answer_of, lines_of, after_frames}
-use Rattle.component_package.specs.Lines.{line_of}
-use Rattle.mote_core.specs.Flashes.{flash_of}
+use Rattle.component_package.specs.mote.Frames.{Frame, is_too_long, has_end}
+use Rattle.component_package.specs.mote.Headline.{IsHeadline}
+use Rattle.component_package.specs.mote.Machine.{Mote, boot_frame}
+use Rattle.session_laws.specs.Sessions.{shown, LeftSince}
+use Rattle.session_laws.specs.Turns.{all_programs_of, frames_of, IsTurn}
+use Rattle.install_journal.specs.Steps.{Stands}
 
 -- ---- statuses
-
--- the words are the one word `run`
-abbrev pub IsRun : List (List ℕ) → Type 0
-IsRun words = words ≡ codes "run" ∷ []
-
--- the statuses that a session ends with
-abbrev pub is_status : ℕ → Bool
-is_status n = n == 0 || n == 2 || n == 3 || n == 4 || n == 5 || n == 7
 
 -- The status of a session that read these frames and this rest, so many frames in all: 0 after END or where the input ended between frames, 7 where a
 -- byte came after the last frame of a session, 3 after a head with too great a length, 2 where the input ended inside a frame.
@@ -33,50 +27,58 @@ pub record TellsFaults (status : ℕ) (old new : View) : Type 0 where
   pub line : status ≡ 5 → Rose old.line_faults new.line_faults
   pub line_kept : status ≢ 5 → new.line_faults ≡ old.line_faults
 
--- ---- a session
-
--- all lines were sent, and both flashes are as the frames leave them
-pub record AllServed (s : State) (frames : List Frame) (owed : List ℕ) (x : State) : Type 0 where
-  pub sent : owed ≡ []
-  pub flash : flash_of x ≡ after_frames (flash_of s) frames
-
--- All was served, and the status is by the frames and the rest. The input has ended where it ended inside a frame or between frames; past the last frame of
--- a session one byte is read.
-pub record EndsWell (s : State) (count : ℕ) (frames : List Frame) (rest owed : List ℕ) (x : State) (left : List ℕ) (status : ℕ) : Type 0 where
-  pub served : AllServed s frames owed x
+-- The status is by the frames and the rest. The input has ended where it ended inside a frame or between frames; past the last frame of a session one
+-- byte is read.
+pub record EndsWell (count : ℕ) (frames : List Frame) (rest left : List ℕ) (status : ℕ) : Type 0 where
   pub status_is : status ≡ status_of count frames rest
-  pub input : status ≡ 0 → IsFalse (has_end frames) → left ≡ []
+  pub input : status ≡ 0 → has_end frames ≡ false → left ≡ []
   pub cut : status ≡ 2 → left ≡ []
   pub budget : status ≡ 7 → length rest ≡ 1
 
--- nothing was sent of the line of the last frame, which is owed whole
-pub record OwesLast (s : State) (frames : List Frame) (owed : List ℕ) : Type 0 where
-  pub before : List Frame
-  pub last : Frame
-  pub are : frames ≡ before ++ last ∷ []
-  pub owes : owed ≡ line_of (answer_of (after_frames (flash_of s) before) last)
+-- ---- a turn
 
--- Where no fault ended a session it ended well. A line is sent only once what it says was done: where a line fault ended the session both flashes are as the
--- frames leave them, and where a flash fault did nothing was sent of the last frame's line.
-pub record Ends (s : State) (count : ℕ) (frames : List Frame) (rest owed : List ℕ) (x : State) (left : List ℕ) (status : ℕ) : Type 0 where
-  pub well : status ≢ 4 → status ≢ 5 → EndsWell s count frames rest owed x left status
-  pub line_fault : status ≡ 5 → flash_of x ≡ after_frames (flash_of s) frames
-  pub flash_fault : status ≡ 4 → OwesLast s frames owed
+-- the session goes on
+abbrev pub Goes : Option ℕ → Type 0
+Goes status = status ≡ None
 
--- A session from this state and these bytes left, with this status. What it read is whole frames and a rest, and what it sent is their lines but for those
--- bytes that are owed. Where no count of faults rose it ended well.
-pub record Runs (s : State) (l : List ℕ) (old new : View) (status : ℕ) : Type 0 where
-  pub got : List ℕ
-  pub frames : List Frame
-  pub rest : List ℕ
-  pub owed : List ℕ
-  pub end : State
+-- no fault ended the session with this status
+pub record IsCalm (status : Option ℕ) : Type 0 where
+  pub flash : status ≢ Some 4
+  pub line : status ≢ Some 5
+
+-- where a turn after so many frames ended the session without a fault, the status is by what it read
+abbrev pub Ends : ℕ → Option ℕ → List Frame → List ℕ → List ℕ → Type 0
+Ends count status frames rest left = (n : ℕ) → status ≡ Some n → IsCalm status → EndsWell (count + length frames) frames rest left n
+
+-- a turn after so many frames, from a state that stands for the mote t, and these bytes left to receive
+abbrev pub TurnOf : ℕ → Option ℕ → State → List ℕ → Mote → View → View → Type 0
+TurnOf count status z l t old new = IsTurn t count z l (Goes status) (IsCalm status) (Ends count status) old new
+
+abbrev pub TakesTurn : ℕ → Option ℕ → View → View → Type 0
+TakesTurn count status old new = (z : State) (l : List ℕ) (t : Mote) → old.state ≡ Some z → old.left ≡ Some l → Stands z t → TurnOf count status z l t old new
+
+-- ---- a session
+
+-- neither count of faults rose
+pub record NoFault (old new : View) : Type 0 where
+  pub flash : Rose old.flash_faults new.flash_faults → ⊥
+  pub line : Rose old.line_faults new.line_faults → ⊥
+
+-- The headline, of a session that ended with this status, from a told state e that stands for the mote s, and from these bytes left to receive. Every
+-- state that a cut may have left since entry counts, the bytes that it took are what is left no more, and it was calm where neither count of faults rose.
+pub record HasHeadline (s : Mote) (e : State) (l : List ℕ) (status : ℕ) (old new : View) : Type 0 where
+  pub exit : State
+  pub taken : List ℕ
   pub left : List ℕ
-  pub told : new.state ≡ Some end
+  pub told : new.state ≡ Some exit
   pub told_left : new.left ≡ Some left
-  pub read : l ≡ got ++ left
-  pub few : length frames ≤ 1000000
-  pub whole : Frames got frames rest
-  pub lines : s.sent ++ lines_of (flash_of s) frames ≡ end.sent ++ owed
-  pub ends : Ends s (length frames) frames rest owed end left status
-  pub calm : ¬ Rose old.flash_faults new.flash_faults → ¬ Rose old.line_faults new.line_faults → EndsWell s (length frames) frames rest owed end left status
+  pub took : l ≡ taken ++ left
+  pub holds : IsHeadline s (shown e) (shown exit) (LeftSince old new) (NoFault old new) taken
+  -- where no fault rose, the status is by the frames and the rest
+  pub ends : NoFault old new → EndsWell (length holds.frames) holds.frames holds.rest left status
+  -- and it programmed no more pages than its boot and its frames take
+  pub programs : new.all_programs ≤ old.all_programs + all_programs_of (boot_frame ∷ holds.frames)
+
+-- it holds of a session from any state that is sound
+abbrev pub IsMain : ℕ → View → View → Type 0
+IsMain status old new = (s : Mote) (e : State) (l : List ℕ) → old.state ≡ Some e → old.left ≡ Some l → Stands e s → HasHeadline s e l status old new

@@ -1,7 +1,7 @@
 //! The lines of answers.
 
 ghost use Rattle.std.specs.Prelude.{◌≡◌, ◌+◌, ◌*◌, ◌<◌, ◌≤◌, ◌++◌, ◌∷◌, take, length, decimal};
-ghost use Rattle.component_package.specs.Lines.{words_line, line_of, spaced};
+ghost use Rattle.component_package.specs.mote.Lines.{words_line, line_of, spaced};
 
 use component_package::Answer;
 use itoa::Buffer;
@@ -76,7 +76,6 @@ pub fn write_line(a: &Answer, into: &mut [u8; 64]) -> u8
         Answer::Booted(n) => put_line(into, b"booted", &[n]),
         Answer::Status(c, n, s) => put_line(into, b"status", &[c, n, s as u32]),
         Answer::Aborted => put_line(into, b"aborted", &[]),
-        Answer::NotYet => put_line(into, b"not yet", &[]),
         Answer::Ended | Answer::Unformatted => 0,
     }
 }

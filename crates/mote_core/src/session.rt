@@ -2,6 +2,7 @@
 
 ghost use Rattle.std.specs.Prelude.{◌≡◌, ◌+◌, ◌<◌, ◌≤◌, ◌++◌, [], List, ℕ, OnOk, OnErr, IfOk, MatchResult, Some, take, length};
 ghost use Rattle.flash_pages.specs.Board.{UsesLine, Rose};
+ghost use Rattle.avr_reloc.specs.Field.{AreBytes};
 
 use flash_pages::{Board, Failed};
 
@@ -60,6 +61,11 @@ fn receive_all<B: Board>(board: &mut B, into: &mut [u8]) -> Result<usize, Failed
     Ok(at)
 }
 
+// Each element of a slice of bytes is below 256, which the proof of `next_frame` reads.
+fn are_bytes(_bytes: &[u8])
+    ensures { AreBytes _bytes.now }
+{}
+
 impl Session {
     ghost use Rattle.mote_core.specs.Reading.{served_of, payload_of, NextGives, ServesNext};
 
@@ -88,6 +94,8 @@ impl Session {
         ensures left { (l : List ℕ) → (B.view board.old).left ≡ Some l
             → (rest : List ℕ) × (new : List ℕ) × ((B.view board.new).left ≡ Some new) × NextGives result (payload_of self.new) l rest new }
         ensures served { ServesNext result self.old self.new }
+        ensures budget { 1000000 ≤ served_of self.old → (l : List ℕ) → (B.view board.old).left ≡ Some l
+            → (new : List ℕ) × ((B.view board.new).left ≡ Some new) × (length l ≤ length new + 1) }
         ensures state { (B.view board.new).state ≡ (B.view board.old).state }
         ensures line { UsesLine (λ s x. x ≡ s) (B.view board.old) (B.view board.new) }
         ensures no_fault { OnOk result ((B.view board.new).line_faults ≡ (B.view board.old).line_faults) }
@@ -128,6 +136,7 @@ impl Session {
         if came < wanted {
             return Ok(Next::CutFrame);
         }
+        are_bytes(&buffer[..wanted]);
         self.buffer = buffer;
         self.payload_len = length;
         self.served += 1;

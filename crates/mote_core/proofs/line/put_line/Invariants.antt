@@ -1,5 +1,5 @@
 use Rattle.std.proofs.Common.{◌≡◌, ◌≤◌, ◌*◌, ◌+◌, ◌++◌, take, length}
-use Rattle.component_package.specs.Lines.{spaced}
+use Rattle.component_package.specs.mote.Lines.{spaced}
 use Rattle.mote_core.proofs.line.put_line.Given as goal
 
 abbrev pub invariant-loop-n : goal.invariant-loop-n

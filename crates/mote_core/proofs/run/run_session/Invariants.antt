@@ -1,17 +1,19 @@
-use Rattle.std.proofs.Common.{◌≡◌, ◌-◌, List, ℕ, [], None, Some, length}
+use Rattle.std.proofs.Common.{◌≡◌, ◌-◌, List, ℕ, Some, length}
 use Rattle.flash_pages.specs.State.{State}
-use Rattle.component_package.specs.Frames.{Frame}
+use Rattle.component_package.specs.mote.Frames.{Frame}
+use Rattle.component_package.specs.mote.Machine.{Mote}
 use Rattle.mote_core.specs.Reading.{served_of}
-use Rattle.mote_core.specs.Parts.{Serves}
+use Rattle.session_laws.specs.Turns.{IsSession}
+use Rattle.install_journal.specs.Steps.{Stands}
 use Rattle.mote_core.proofs.run.run_session.Given as goal
 
 abbrev pub invariant-loop-status : goal.invariant-loop-status
 invariant-loop-status g l = record {
   line : (g.B.Board.view l.board).line_faults ≡ (g.B.Board.view l.fn.board).line_faults;
   flash : (g.B.Board.view l.board).flash_faults ≡ (g.B.Board.view l.fn.board).flash_faults;
-  serves : (s : State) (bytes : List ℕ) → (g.B.Board.view l.fn.board).state ≡ Some s → (g.B.Board.view l.fn.board).left ≡ Some bytes
-      → (frames : List Frame) × (x : State) × (left : List ℕ) × (length frames ≡ served_of l.session) × ((g.B.Board.view l.board).state ≡ Some x) × ((g.B.Board.view l.board).left ≡ Some left)
-      × Serves (length frames) s bytes frames [] [] x left None;
+  sessions : (s : Mote) (e : State) (bytes : List ℕ) → (g.B.Board.view l.fn.board).state ≡ Some e → (g.B.Board.view l.fn.board).left ≡ Some bytes → Stands e s
+      → (frames : List Frame) × (z : State) × (left : List ℕ) × (length frames ≡ served_of l.session)
+      × IsSession s e bytes frames z left (g.B.Board.view l.fn.board) (g.B.Board.view l.board);
 }
 
 abbrev pub decreases-loop-status : goal.decreases-loop-status

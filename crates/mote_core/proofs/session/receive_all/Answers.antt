@@ -1,7 +1,7 @@
 use Rattle.std.proofs.Common.{arith, ◌∙◌, drop}
 use Rattle.std.proofs.lemmas.Grind.{common_steps}
 use Rattle.mote_core.proofs.Streams.{read_more, taken}
-use Rattle.mote_core.proofs.Calls.{line_then}
+use Rattle.flash_pages.proofs.Runs.{receives_then}
 use Rattle.mote_core.proofs.session.receive_all.Goals as goal
 
 pub loop-at-preserved : goal.loop-at-preserved
@@ -15,12 +15,12 @@ loop-at-preserved g c = record {
         read_more c.loop-at.at c.in-Ok.count _ c.loop-at.into c.receive.new.into _ _ _ c.loop-at.invariant.within (grind (arith, common_steps)) was.2 (taken c.in-Ok.count c.receive.new.into was.0 got.1),
       );
   state = c.in-Ok.ensures.state ∙ c.loop-at.invariant.state;
-  line = line_then _ _ _ c.loop-at.invariant.line c.loop-at.invariant.state c.in-Ok.ensures.line;
-  fault = c.in-Ok.ensures.ok.line ∙ c.loop-at.invariant.fault;
+  line = receives_then _ _ _ c.loop-at.invariant.line c.loop-at.invariant.state c.in-Ok.ensures.line;
+  fault = c.in-Ok.ensures.faults ∙ c.loop-at.invariant.fault;
 }
 
 pub returns-in_default-clause-line : goal.returns-in_default-clause-line
-returns-in_default-clause-line g c = line_then _ _ _ c.loop-at.invariant.line c.loop-at.invariant.state c.in_default.ensures.line
+returns-in_default-clause-line g c = receives_then _ _ _ c.loop-at.invariant.line c.loop-at.invariant.state c.in_default.ensures.line
 
 pub returns-then-count-eq0-clause-line : goal.returns-then-count-eq0-clause-line
-returns-then-count-eq0-clause-line g c = line_then _ _ _ c.loop-at.invariant.line c.loop-at.invariant.state c.in-Ok.ensures.line
+returns-then-count-eq0-clause-line g c = receives_then _ _ _ c.loop-at.invariant.line c.loop-at.invariant.state c.in-Ok.ensures.line

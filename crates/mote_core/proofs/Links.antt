@@ -1,0 +1,401 @@
+-- The steps of LINK.
+use Rattle.std.proofs.Common.{◌≡◌, ℕ, ◌+◌, ◌≤◌, Bool, true, false, ◌&&◌, leb, List, Option, Some, None, Err, refl, sym, ap, ◌∙◌, subst, arith, length}
+use Rattle.std.proofs.lemmas.Bool.Decides.{nat_tests}
+use Rattle.std.proofs.lemmas.Bool.{false≢true}
+use Rattle.std.proofs.lemmas.Option.{same_Some}
+use Rattle.flash_pages.specs.State.{State, Place, Prog, Ext, IsState, OnlyPages, ext_pages}
+use Rattle.flash_pages.specs.Board.{View, Reads}
+use Rattle.flash_pages.specs.Moments.{LeavesOnly}
+use Rattle.flash_pages.proofs.Runs.{starts, follows, weaker, at_end, reads}
+use Rattle.flash_pages.proofs.Pages.{only_starts, only_only}
+use Rattle.component_package.specs.declared.answer.Answer.{Answer}
+use Rattle.component_package.specs.declared.answer.Answer.TheVariants as answers
+use Rattle.component_package.specs.packages.Manifest.{StoredRelease, IsStored, Stores, stored_of}
+use Rattle.component_package.specs.link.Link.{Cause, Duplicate, Undefined, Range, IsLate, link_cause, rooms_of, room_cause, symbols_cause, relocations_cause, duplicate_cause, sites_cause}
+use Rattle.component_package.specs.packages.Component.{Component}
+use Rattle.component_package.specs.link.Areas.{MergedSymbol, Tells, Lists}
+use Rattle.component_package.specs.link.Pages.{IsTableOf, listed, IsPages}
+use Rattle.component_package.specs.mote.Store.{HasSet, slots_of, set_fault, components_of}
+use Rattle.component_package.specs.mote.Sides.{Parts, man, sym as sym_gate, rel, img, chosen_side, other_side, is_pending}
+use Rattle.component_package.specs.mote.Sound.{IsSound, IsMerged}
+use Rattle.component_package.specs.mote.Headline.{StandsFor, StandsForIncoming, has_incoming}
+use Rattle.component_package.specs.mote.Machine.{Mote, range_number}
+use Rattle.component_store.specs.declared.set.StoredSet.{StoredSet}
+use Rattle.component_store.specs.Sets.{HoldsSet, HasHeaders}
+use Rattle.mote_laws.specs.Steps.{Keeps, with_gate}
+use Rattle.mote_laws.specs.Sets.{AreByteSlots}
+use Rattle.mote_laws.specs.Words.{WordsSay}
+use Rattle.mote_laws.proofs.Steps.{writing_keeps}
+use Rattle.mote_laws.proofs.Stands.{resting_steps_stand}
+use Rattle.mote_laws.proofs.Motes.{man_open}
+use Rattle.mote_laws.proofs.Sets.{sets_are_faultless}
+use Rattle.mote_laws.proofs.Words.{words_say_what_they_mean}
+use Rattle.install_journal.specs.declared.gates.Stage.{Stage}
+use Rattle.install_journal.specs.declared.gates.Stage.TheVariants as stages
+use Rattle.install_journal.specs.Steps.{parts, Stands, Step, Takes, Becomes, Rests, Vouches, marks, stage_gate, one_page}
+use Rattle.symbol_merge.specs.Stored.{set_in, symbol_area}
+use Rattle.symbol_merge.specs.Changes.{OnlySymbols, symbol_pages}
+use Rattle.symbol_merge.specs.Answers.{IsMerged as IsTable}
+use Rattle.link_laws.proofs.Own.{own_list_fits, pages_exist, patched_are_pages}
+use Rattle.reloc_table.specs.declared.fault.BuildFault.{BuildFault}
+use Rattle.reloc_table.specs.declared.fault.BuildFault.TheVariants as builds
+use Rattle.reloc_table.specs.List.{list_area, CauseIs, is_build_fault, is_at_site}
+use Rattle.reloc_table.specs.Written.{OnlyList}
+use Rattle.image_stage.specs.Staged.{ArePagesOf, OnlyStaged, staged_pages}
+use Rattle.mote_core.specs.Serving.{link_pages, Kept}
+use Rattle.mote_core.specs.Links.{site_answer, IsStagedFor, IsLinking, Refuses, IsEarlyFree, Gates, Goes}
+use Rattle.mote_core.proofs.Works.{Within, step_keeps}
+use Rattle.mote_core.proofs.Causes.{IsLateOnly, late_only, duplicate_first, sites_last, sites_late}
+use Rattle.mote_core.proofs.Below.{byte_slots, linkable}
+
+-- ---- what is kept
+
+pub kept_starts : (may : Place → Bool) (s : State) (t : Mote) → Stands s t → Kept may s s
+kept_starts may s t stands = record { pages = only_starts may s; prog = λ none. refl; keeps = record { sound = stands.sound; chosen = λ c chooses. chooses } }
+
+pub kept_then : (may : Place → Bool) (s w x : State) → Kept may s w → Kept may w x → Kept may s x
+kept_then may s w x first second = record {
+  pages = only_only may may s w x (λ place out. out) first.pages second.pages;
+  prog = λ none. second.prog none ∙ first.prog none;
+  keeps = record { sound = second.keeps.sound; chosen = λ c chooses. second.keeps.chosen c (first.keeps.chosen c chooses) };
+}
+
+pub kept_wider : (may all : Place → Bool) (s x : State) → Within may all → ((page : ℕ) → may (Prog page) ≡ false) → Kept may s x → Kept all s x
+kept_wider may all s x within no_prog kept = record {
+  pages = record { sent = kept.pages.sent; page = λ place out. kept.pages.page place (within place out) };
+  prog = λ none. kept.prog no_prog;
+  keeps = kept.keeps;
+}
+
+-- a run, and then a run from where it ended
+pub run_then : (may : Place → Bool) (s w : State) (m n : ℕ) (old mid new : View) → mid.state ≡ Some w → LeavesOnly (Kept may s) m old mid → LeavesOnly (Kept may w) n mid new → LeavesOnly (Kept may s) (m + n) old new
+run_then may s w m n old mid new told first second =
+    let here = at_end (Kept may s) m old mid w first told in
+    follows (Kept may s) m n old mid new first (weaker (Kept may w) (Kept may s) n n mid new (omega arith) (λ x kept. kept_then may s w x here kept) second)
+
+pub run_idle : (s : State) (t : Mote) (n : ℕ) (old : View) → old.state ≡ Some s → Stands s t → LeavesOnly (Kept link_pages s) n old old
+run_idle s t n old told stands = weaker (Kept link_pages s) (Kept link_pages s) 0 n old old (omega arith) (λ x here. here) (starts (Kept link_pages s) old s told (kept_starts link_pages s t stands))
+
+-- pages within those of LINK
+area_within : (first last : ℕ) → 18 ≤ first → last ≤ 785 → Within (ext_pages first last) link_pages
+area_within first last low high (Prog q) out = refl
+area_within first last low high (Ext q) out = grind (arith, nat_tests)
+
+gate_within : (gate : ℕ) → 2 ≤ gate → gate ≤ 4 → Within (one_page gate) link_pages
+gate_within gate low high (Prog q) out = refl
+gate_within gate low high (Ext q) out = grind (arith, nat_tests)
+
+-- ---- what goes on
+
+pub linking_on : (t : Mote) (set : StoredSet) (s x : State) → IsLinking t set s → Stands x t → slots_of x.ext ≡ slots_of s.ext → IsLinking t set x
+linking_on t set s x was stands same = record {
+  stands = stands;
+  rests = was.rests;
+  incoming = was.incoming;
+  unlinked = was.unlinked;
+  held = record {
+    whole = ap (λ (l : List (List ℕ)). set_fault l (stored_of set.slots)) same ∙ was.held.whole;
+    headers = subst (λ (l : List (List ℕ)). HasHeaders l (stored_of set.slots) set.slots.manifest.count set.headers) (sym same) was.held.headers;
+  };
+}
+
+-- what comes in is on the other side
+pub other_stores : (t : Mote) (set : StoredSet) (s : State) → IsLinking t set s → (has_incoming (parts s) ≡ true) × Stores (other_side (parts s)) (stored_of set.slots)
+other_stores t set s linking = subst (StandsForIncoming (parts s)) linking.incoming linking.stands.mote.incoming
+
+pub at_rest : (t : Mote) (set : StoredSet) (s : State) → IsLinking t set s → is_pending (parts s) ≡ false
+at_rest t set s linking = sym linking.stands.mote.standing ∙ linking.rests
+
+-- what the words of soundness say of it
+pub words : (t : Mote) (set : StoredSet) (s : State) → IsLinking t set s → WordsSay (slots_of s.ext) (other_side (parts s)) (stored_of set.slots)
+words t set s linking = words_say_what_they_mean (slots_of s.ext) (other_side (parts s)) (stored_of set.slots) (other_stores t set s linking).1
+
+pub whole_set : (t : Mote) (set : StoredSet) (s : State) → IsState s → IsLinking t set s → HasSet (slots_of s.ext) (stored_of set.slots)
+whole_set t set s is linking = sets_are_faultless.whole (slots_of s.ext) (stored_of set.slots) (byte_slots s is) linking.held.whole
+
+-- ---- symbols
+
+pub symbols_kept : (t : Mote) (set : StoredSet) (s x : State) → IsLinking t set s → (parts s).gates sym_gate ≡ false → OnlySymbols s x → Kept link_pages s x
+symbols_kept t set s x linking closed only = kept_wider symbol_pages link_pages s x (area_within 18 49 (omega arith) (omega arith)) (λ page. refl) (record {
+  pages = only.pages;
+  prog = λ none. ap (λ (q : Parts). q.prog) only.parts;
+  keeps = subst (Keeps (parts s)) (sym only.parts) (writing_keeps.symbols (parts s) (symbol_area x) linking.stands.sound closed);
+})
+
+pub symbols_linking : (t : Mote) (set : StoredSet) (s x : State) → IsLinking t set s → (parts s).gates sym_gate ≡ false → OnlySymbols s x → IsLinking t set x
+symbols_linking t set s x linking closed only = linking_on t set s x linking
+    (record {
+      sound = (symbols_kept t set s x linking closed only).keeps.sound;
+      mote = subst (λ (q : Parts). StandsFor q t) (sym only.parts) (resting_steps_stand.symbol_area (parts s) t (symbol_area x) linking.stands.mote);
+    })
+    (ap (λ (q : Parts). q.slots) only.parts)
+
+-- the merged symbols are there
+pub symbols_vouched : (t : Mote) (set : StoredSet) (x : State) (n : ℕ) → IsState x → IsLinking t set x → IsEarlyFree set x → IsTable (set_in x set) (symbol_area x) n → Vouches stages.Symbols (parts x)
+symbols_vouched t set x n is linking early table =
+    let w = words t set x linking in
+    let whole = whole_set t set x is linking in
+    let late : IsLate (link_cause (set_in x set)) = subst IsLate (sym (sites_last (set_in x set) early.room early.symbols early.relocs table.single)) (sites_late (set_in x set)) in
+    record {
+      incoming = (man_open (parts x) (other_stores t set x linking).0).1;
+      set = w.set.1 whole;
+      cause = w.late_cause.1 (whole, late);
+      table = (w.table (symbol_area x)).1 (table.table, table.is, table.tells);
+    }
+
+-- ---- gates
+
+-- a gate that vouches is opened
+pub marks_kept : (t : Mote) (set : StoredSet) (stage : Stage) (s x : State) → IsLinking t set s → Vouches stage (parts s) → Step (λ u. Rests u × Vouches stage (parts s)) (one_page (stage_gate stage)) s x → Kept link_pages s x
+marks_kept t set stage s x linking vouched took =
+    kept_wider (one_page (stage_gate stage)) link_pages s x (within stage) (λ page. refl) (step_keeps (λ u. Rests u × Vouches stage (parts s)) (one_page (stage_gate stage)) t s x took linking.stands (linking.rests, vouched))
+  where
+    within : (stage : Stage) → Within (one_page (stage_gate stage)) link_pages
+    within stages.Symbols = gate_within 2 (omega arith) (omega arith)
+    within stages.Relocs = gate_within 3 (omega arith) (omega arith)
+    within stages.Image = gate_within 4 (omega arith) (omega arith)
+
+pub marks_run : (t : Mote) (set : StoredSet) (stage : Stage) (s : State) (old new : View) → IsLinking t set s → Vouches stage (parts s)
+    → Takes (Step (λ u. Rests u × Vouches stage (parts s)) (one_page (stage_gate stage)) s) (one_page (stage_gate stage)) 1 old new → LeavesOnly (Kept link_pages s) 1 old new
+marks_run t set stage s old new linking vouched takes =
+    weaker (Step (λ u. Rests u × Vouches stage (parts s)) (one_page (stage_gate stage)) s) (Kept link_pages s) 1 1 old new (omega arith) (λ x took. marks_kept t set stage s x linking vouched took) takes.leaves
+
+-- ---- answers
+
+-- nothing was to be done
+pub stays_linking : (t : Mote) (set : StoredSet) (symbols : Bool) (s : State) (v : View) → v.state ≡ Some s → IsLinking t set s → (parts s).gates sym_gate ≡ symbols
+    → Goes t set symbols ((parts s).gates rel) None s v
+stays_linking t set symbols s v told linking is = record {
+  end = s;
+  told = told;
+  linking = linking;
+  gates = λ none. record { sym_is = is; rel_is = refl; img_is = refl };
+  refuses = λ b some. absurd (let q : ⊥ = cc in q);
+}
+
+-- the run of a merge
+pub symbols_run : (t : Mote) (set : StoredSet) (s : State) (old new : View) → IsLinking t set s → (parts s).gates sym_gate ≡ false → LeavesOnly (OnlySymbols s) 32 old new → LeavesOnly (Kept link_pages s) 32 old new
+symbols_run t set s old new linking closed run = weaker (OnlySymbols s) (Kept link_pages s) 32 32 old new (omega arith) (λ x only. symbols_kept t set s x linking closed only) run
+
+pub weaker_run : (s : State) (m n : ℕ) (old new : View) → m ≤ n → LeavesOnly (Kept link_pages s) m old new → LeavesOnly (Kept link_pages s) n old new
+weaker_run s m n old new few run = weaker (Kept link_pages s) (Kept link_pages s) m n old new few (λ x here. here) run
+
+-- it found a cause
+pub symbols_found : (t : Mote) (set : StoredSet) (symbols relocs : Bool) (s : State) (a : Answer) (old new : View) → IsLinking t set s → (parts s).gates sym_gate ≡ false → LeavesOnly (OnlySymbols s) 32 old new
+    → Refuses set s a → Goes t set symbols relocs (Some a) s new
+symbols_found t set symbols relocs s a old new linking closed run refuses = record {
+  end = run.end;
+  told = run.told;
+  linking = symbols_linking t set s run.end linking closed run.ends;
+  gates = λ none. absurd (let q : ⊥ = cc in q);
+  refuses = λ b some. subst (Refuses set s) (same_Some a b some) refuses;
+}
+
+-- the set is the same behind it
+pub same_set : (set : StoredSet) (s x : State) → slots_of x.ext ≡ slots_of s.ext → set_in x set ≡ set_in s set
+same_set set s x same = ap (λ (l : List (List ℕ)). components_of l (stored_of set.slots)) same
+
+-- its gate was opened
+pub marked : (t : Mote) (set : StoredSet) (stage : Stage) (s : State) (v : View) → IsLinking t set s → Vouches stage (parts s) → marks stage t ≡ t
+    → (b : Becomes (with_gate (stage_gate stage) true (parts s)) (λ u. Rests u × Vouches stage (parts s)) (marks stage) s v) → IsLinking t set b.end
+marked t set stage s v linking vouched same b = linking_on t set s b.end linking (subst (Stands b.end) same (b.stands t linking.stands (linking.rests, vouched))) (ap (λ (q : Parts). q.slots) b.parts_are)
+
+-- behind a merge
+module _ (t : Mote) (set : StoredSet) (s x : State) (linking : IsLinking t set s) (closed : (parts s).gates sym_gate ≡ false) (only : OnlySymbols s x) where
+  set_stays : set_in x set ≡ set_in s set
+  set_stays = same_set set s x (ap (λ (q : Parts). q.slots) only.parts)
+
+  pub merged_vouched : (n : ℕ) → IsState x → IsEarlyFree set s → IsTable (set_in s set) (symbol_area x) n → Vouches stages.Symbols (parts x)
+  merged_vouched n is early table =
+      symbols_vouched t set x n is (symbols_linking t set s x linking closed only)
+      (record {
+        room = ap (λ (c : List Component). room_cause (rooms_of c)) set_stays ∙ early.room;
+        symbols = ap symbols_cause set_stays ∙ early.symbols;
+        relocs = ap relocations_cause set_stays ∙ early.relocs;
+      })
+      (subst (λ (c : List Component). IsTable c (symbol_area x) n) (sym set_stays) table)
+
+  pub merged_goes : (v : View) → Vouches stages.Symbols (parts x) → Becomes (with_gate (stage_gate stages.Symbols) true (parts x)) (λ u. Rests u × Vouches stages.Symbols (parts x)) (marks stages.Symbols) x v
+      → Goes t set true ((parts s).gates rel) None s v
+  merged_goes v vouched b = record {
+    end = b.end;
+    told = b.told;
+    linking = marked t set stages.Symbols x v (symbols_linking t set s x linking closed only) vouched refl b;
+    gates = λ none. record {
+      sym_is = ap (λ (q : Parts). q.gates sym_gate) b.parts_are;
+      rel_is = ap (λ (q : Parts). q.gates rel) b.parts_are ∙ ap (λ (q : Parts). q.gates rel) only.parts;
+      img_is = ap (λ (q : Parts). q.gates img) b.parts_are ∙ ap (λ (q : Parts). q.gates img) only.parts;
+    };
+    refuses = λ c some. absurd (let q : ⊥ = cc in q);
+  }
+
+-- ---- relocations
+
+-- what the gate Sym vouches for, of a state that is sound
+pub record HasMerged (set : StoredSet) (s : State) : Type 0 where
+  pub table : List MergedSymbol
+  pub is : IsTableOf (set_in s set) table
+  pub tells : Tells (symbol_area s) table
+  pub late : IsLateOnly (set_in s set)
+
+pub has_merged : (t : Mote) (set : StoredSet) (s : State) → IsLinking t set s → (parts s).gates sym_gate ≡ true → HasMerged set s
+has_merged t set s linking is_open =
+    let w = words t set s linking in
+    let merged = (linking.stands.sound.rest (at_rest t set s linking)).sym_open is_open in
+    let table = (w.table (symbol_area s)).0 merged.table in
+    record { table = table.0; is = table.1; tells = table.2; late = late_only (set_in s set) (w.late_cause.0 merged.cause).1 }
+
+pub relocs_kept : (t : Mote) (set : StoredSet) (s x : State) → IsLinking t set s → (parts s).gates rel ≡ false → OnlyList s x → Kept link_pages s x
+relocs_kept t set s x linking closed only = kept_wider (ext_pages 50 305) link_pages s x (area_within 50 305 (omega arith) (omega arith)) (λ page. refl) (record {
+  pages = only.pages;
+  prog = λ none. ap (λ (q : Parts). q.prog) only.parts;
+  keeps = subst (Keeps (parts s)) (sym only.parts) (writing_keeps.relocs (parts s) (list_area x) linking.stands.sound closed);
+})
+
+pub relocs_run : (t : Mote) (set : StoredSet) (s : State) (old new : View) → IsLinking t set s → (parts s).gates rel ≡ false → LeavesOnly (OnlyList s) 256 old new → LeavesOnly (Kept link_pages s) 256 old new
+relocs_run t set s old new linking closed run = weaker (OnlyList s) (Kept link_pages s) 256 256 old new (omega arith) (λ x only. relocs_kept t set s x linking closed only) run
+
+pub relocs_linking : (t : Mote) (set : StoredSet) (s x : State) → IsLinking t set s → (parts s).gates rel ≡ false → OnlyList s x → IsLinking t set x
+relocs_linking t set s x linking closed only = linking_on t set s x linking
+    (record {
+      sound = (relocs_kept t set s x linking closed only).keeps.sound;
+      mote = subst (λ (q : Parts). StandsFor q t) (sym only.parts) (resting_steps_stand.reloc_area (parts s) t (list_area x) linking.stands.mote);
+    })
+    (ap (λ (q : Parts). q.slots) only.parts)
+
+-- a read before a run
+pub read_then : (s : State) (t : Mote) (n : ℕ) (old mid new : View) → old.state ≡ Some s → Stands s t → Reads old mid → LeavesOnly (Kept link_pages s) n mid new → LeavesOnly (Kept link_pages s) n old new
+read_then s t n old mid new told stands read run =
+    weaker (Kept link_pages s) (Kept link_pages s) (0 + n) n old new (omega arith) (λ x here. here)
+    (follows (Kept link_pages s) 0 n old mid new (reads (Kept link_pages s) 0 old old mid (run_idle s t 0 old told stands) read) run)
+
+pub read_only : (s : State) (t : Mote) (n : ℕ) (old new : View) → old.state ≡ Some s → Stands s t → Reads old new → LeavesOnly (Kept link_pages s) n old new
+read_only s t n old new told stands read = reads (Kept link_pages s) n old old new (run_idle s t n old told stands) read
+
+-- no call of the board failed where there is such a line
+pub site_calm : (A : Type 0) (f : BuildFault) (a : Answer) → site_answer f ≡ Some a → is_build_fault {A = A} (Err f) ≡ false
+site_calm A builds.Fault a some = absurd (let q : ⊥ = cc in q)
+site_calm A (builds.Relocations n) a some = refl
+site_calm A (builds.Undefined k r s) a some = refl
+site_calm A (builds.Range k r f) a some = refl
+
+-- the cause that a relocation has
+pub site_refuses : (A : Type 0) (set : StoredSet) (s : State) (f : BuildFault) (a : Answer) → HasMerged set s → CauseIs {A = A} (Err f) (sites_cause (set_in s set)) → site_answer f ≡ Some a → Refuses set s a
+site_refuses A set s builds.Fault a merged cause some = absurd (let q : ⊥ = cc in q)
+site_refuses A set s (builds.Relocations n) a merged cause some = absurd (let q : ⊥ = cc in q)
+site_refuses A set s (builds.Undefined k r x) a merged cause some = record { cause = Undefined k r x; is = merged.late.sites ∙ cause; answer = sym (same_Some (answers.Undefined k r x) a some) }
+site_refuses A set s (builds.Range k r f) a merged cause some = record { cause = Range k r f; is = merged.late.sites ∙ cause; answer = sym (same_Some (answers.Range k r (range_number f)) a some) }
+
+-- behind the writing of the list
+module _ (t : Mote) (set : StoredSet) (s x : State) (linking : IsLinking t set s) (is_open : (parts s).gates sym_gate ≡ true) (closed : (parts s).gates rel ≡ false) (only : OnlyList s x) where
+  list_set : set_in x set ≡ set_in s set
+  list_set = same_set set s x (ap (λ (q : Parts). q.slots) only.parts)
+
+  pub listed_vouched : (merged : HasMerged set s) → IsState x → sites_cause (set_in s set) ≡ None → Lists (list_area x) (listed (set_in s set) merged.table) → Vouches stages.Relocs (parts x)
+  listed_vouched merged is none lists =
+      let now = relocs_linking t set s x linking closed only in
+      let w = words t set x now in
+      let whole = whole_set t set x is now in
+      record {
+        merged = ap (λ (q : Parts). q.gates sym_gate) only.parts ∙ is_open;
+        cause = w.no_cause.1 (whole, ap link_cause list_set ∙ merged.late.sites ∙ none);
+        list = (w.list (list_area x)).1 (merged.table, subst (λ (c : List Component). IsTableOf c merged.table) (sym list_set) merged.is, subst (λ (c : List Component). Lists (list_area x) (listed c merged.table)) (sym list_set) lists);
+      }
+
+  pub listed_goes : (v : View) → Vouches stages.Relocs (parts x) → Becomes (with_gate (stage_gate stages.Relocs) true (parts x)) (λ u. Rests u × Vouches stages.Relocs (parts x)) (marks stages.Relocs) x v
+      → Goes t set true true None s v
+  listed_goes v vouched b = record {
+    end = b.end;
+    told = b.told;
+    linking = marked t set stages.Relocs x v (relocs_linking t set s x linking closed only) vouched refl b;
+    gates = λ none. record {
+      sym_is = ap (λ (q : Parts). q.gates sym_gate) b.parts_are ∙ ap (λ (q : Parts). q.gates sym_gate) only.parts ∙ is_open;
+      rel_is = ap (λ (q : Parts). q.gates rel) b.parts_are;
+      img_is = ap (λ (q : Parts). q.gates img) b.parts_are ∙ ap (λ (q : Parts). q.gates img) only.parts;
+    };
+    refuses = λ c some. absurd (let q : ⊥ = cc in q);
+  }
+
+-- ---- the image
+
+-- what the gate Rel vouches for, of a state that is sound
+pub record HasListed (set : StoredSet) (s : State) : Type 0 where
+  pub table : List MergedSymbol
+  pub is : IsTableOf (set_in s set) table
+  pub lists : Lists (list_area s) (listed (set_in s set) table)
+  pub free : link_cause (set_in s set) ≡ None
+
+pub has_listed : (t : Mote) (set : StoredSet) (s : State) → IsLinking t set s → (parts s).gates rel ≡ true → HasListed set s
+has_listed t set s linking is_open =
+    let w = words t set s linking in
+    let listing = (linking.stands.sound.rest (at_rest t set s linking)).rel_open is_open in
+    let list = (w.list (list_area s)).0 listing.list in
+    record { table = list.0; is = list.1; lists = list.2; free = (w.no_cause.0 listing.cause).1 }
+
+-- the pages that are to be staged
+pub record HasPages (set : StoredSet) (s : State) : Type 0 where
+  pub pages : List (List ℕ)
+  pub are : ArePagesOf s set pages
+  pub image : IsPages (set_in s set) pages
+
+pub has_pages : (t : Mote) (set : StoredSet) (s : State) → IsState s → IsStored (stored_of set.slots) → IsLinking t set s → (listing : HasListed set s) → HasPages set s
+has_pages t set s is stored linking listing =
+    let c = set_in s set in
+    let can = linkable (slots_of s.ext) (stored_of set.slots) stored (whole_set t set s is linking) in
+    let fits = own_list_fits c listing.table can listing.free listing.is in
+    let some = pages_exist c (list_area s) (listed c listing.table) can listing.lists fits in
+    record {
+      pages = some.pages;
+      are = record { list = listed c listing.table; held = linking.held; lists = listing.lists; fits = fits; patched = some.are };
+      image = patched_are_pages c listing.table some.pages can listing.free listing.is some.are;
+    }
+
+pub staged_kept : (t : Mote) (set : StoredSet) (s x : State) → IsLinking t set s → (parts s).gates img ≡ false → OnlyStaged s x → Kept link_pages s x
+staged_kept t set s x linking closed only = kept_wider (ext_pages 306 785) link_pages s x (area_within 306 785 (omega arith) (omega arith)) (λ page. refl) (record {
+  pages = only.pages;
+  prog = λ none. ap (λ (q : Parts). q.prog) only.parts;
+  keeps = subst (Keeps (parts s)) (sym only.parts) (writing_keeps.staged (parts s) (staged_pages x) linking.stands.sound (at_rest t set s linking) closed);
+})
+
+pub staged_run : (t : Mote) (set : StoredSet) (s : State) (old new : View) → IsLinking t set s → (parts s).gates img ≡ false → LeavesOnly (OnlyStaged s) 480 old new → LeavesOnly (Kept link_pages s) 480 old new
+staged_run t set s old new linking closed run = weaker (OnlyStaged s) (Kept link_pages s) 480 480 old new (omega arith) (λ x only. staged_kept t set s x linking closed only) run
+
+pub staged_linking : (t : Mote) (set : StoredSet) (s x : State) → IsLinking t set s → (parts s).gates img ≡ false → OnlyStaged s x → IsLinking t set x
+staged_linking t set s x linking closed only = linking_on t set s x linking
+    (record {
+      sound = (staged_kept t set s x linking closed only).keeps.sound;
+      mote = subst (λ (q : Parts). StandsFor q t) (sym only.parts) (resting_steps_stand.staged (parts s) t (staged_pages x) linking.stands.mote);
+    })
+    (ap (λ (q : Parts). q.slots) only.parts)
+
+-- the image is there
+pub staged_vouched : (t : Mote) (set : StoredSet) (s x : State) → IsLinking t set s → (parts s).gates rel ≡ true → (parts s).gates img ≡ false → OnlyStaged s x → (p : HasPages set s) → staged_pages x ≡ p.pages → Vouches stages.Image (parts x)
+staged_vouched t set s x linking is_open closed only p are =
+    let now = staged_linking t set s x linking closed only in
+    let w = words t set x now in
+    let same = same_set set s x (ap (λ (q : Parts). q.slots) only.parts) in
+    record {
+      listed = ap (λ (q : Parts). q.gates rel) only.parts ∙ is_open;
+      image = (w.image (staged_pages x)).1 (subst (λ (c : List Component). IsPages c (staged_pages x)) (sym same) (subst (IsPages (set_in s set)) (sym are) p.image));
+    }
+
+-- nothing was to be done for the relocations
+pub done_linking : (t : Mote) (set : StoredSet) (symbols relocs : Bool) (s : State) (v : View) → v.state ≡ Some s → IsLinking t set s → (parts s).gates sym_gate ≡ symbols → (parts s).gates rel ≡ relocs
+    → Goes t set symbols relocs None s v
+done_linking t set symbols relocs s v told linking sym_is rel_is = record {
+  end = s;
+  told = told;
+  linking = linking;
+  gates = λ none. record { sym_is = sym_is; rel_is = rel_is; img_is = refl };
+  refuses = λ b some. absurd (let q : ⊥ = cc in q);
+}
+
+-- a relocation has a cause
+pub site_found : (t : Mote) (set : StoredSet) (symbols relocs : Bool) (o : Option Answer) (s : State) (v : View) → v.state ≡ Some s → IsLinking t set s → (o ≡ None → ⊥) → ((b : Answer) → o ≡ Some b → Refuses set s b)
+    → Goes t set symbols relocs o s v
+site_found t set symbols relocs o s v told linking some refuses = record { end = s; told = told; linking = linking; gates = λ none. absurd (some none); refuses = refuses }
+
+-- the image is staged and its gate open
+pub staged_done : (t : Mote) (set : StoredSet) (s x : State) (v : View) → IsLinking t set x → Vouches stages.Image (parts x) → link_cause (set_in s set) ≡ None
+    → Becomes (with_gate (stage_gate stages.Image) true (parts x)) (λ u. Rests u × Vouches stages.Image (parts x)) (marks stages.Image) x v → IsStagedFor t set s v
+staged_done t set s x v linking vouched free b = record { end = b.end; told = b.told; stands = b.stands t linking.stands (linking.rests, vouched); free = free }

@@ -1,0 +1,29 @@
+use Rattle.std.proofs.Common.{subst, Err, refl}
+use Rattle.boot_loader.specs.declared.BootFault.{BootFault}
+use Rattle.boot_loader.specs.Boots.{BootAnswers}
+use Rattle.mote_core.proofs.Boots.{boot_works, boot_does}
+use Rattle.mote_laws.proofs.Standing.{sound_parts_tell}
+use Rattle.install_journal.specs.Steps.{parts}
+use Rattle.mote_core.proofs.frames.boot.serve_boot.Goals as goal
+
+pub returns-in-Ok-clause-works : goal.returns-in-Ok-clause-works
+returns-in-Ok-clause-works g c z t told stands = boot_works z t _ _ stands (c.boot.ensures.each z told)
+
+pub returns-in-Ok-clause-does : goal.returns-in-Ok-clause-does
+returns-in-Ok-clause-does g c z t told stands = boot_does z t _ c.in-Ok.release stands (c.in-Ok.ensures.ok z told) (c.in-Ok.ensures.started z told t stands)
+
+pub returns-in-Err-Unformatted-clause-works : goal.returns-in-Err-Unformatted-clause-works
+returns-in-Err-Unformatted-clause-works g c z t told stands = boot_works z t _ _ stands (c.boot.ensures.each z told)
+
+pub returns-in-Err-Unformatted-clause-does : goal.returns-in-Err-Unformatted-clause-does
+returns-in-Err-Unformatted-clause-does g c z t told stands = absurd (sound_parts_tell.formatted (parts z) stands.sound (subst (λ (e : BootFault). BootAnswers (Err e) (parts z)) c.in-Err-Unformatted.field-0-is (c.in-Err-Unformatted.ensures.answer z told)))
+
+pub returns-in-Err-Fault-clause-works : goal.returns-in-Err-Fault-clause-works
+returns-in-Err-Fault-clause-works g c z t told stands = boot_works z t _ _ stands (c.boot.ensures.each z told)
+
+pub returns-in-Ok-clause-formatted : goal.returns-in-Ok-clause-formatted
+returns-in-Ok-clause-formatted g c z told = (λ same. absurd (let q : ⊥ = cc in q), λ none. absurd ((c.in-Ok.ensures.answer z told).0 none))
+
+pub returns-in-Err-Unformatted-clause-formatted : goal.returns-in-Err-Unformatted-clause-formatted
+returns-in-Err-Unformatted-clause-formatted g c z told =
+    (λ same. subst (λ (e : BootFault). BootAnswers (Err e) (parts z)) c.in-Err-Unformatted.field-0-is (c.in-Err-Unformatted.ensures.answer z told), λ none. refl)

@@ -1,0 +1,40 @@
+use Rattle.std.proofs.Common.{sym, ◌∙◌, refl}
+use Rattle.component_package.specs.packages.Manifest.{stored_of}
+use Rattle.component_package.specs.declared.answer.Answer.TheVariants.{Committed, NoManifest, NotLinked}
+use Rattle.mote_laws.specs.Stands.{commit_frame}
+use Rattle.mote_core.proofs.Works.{idle, served_so}
+use Rattle.mote_core.proofs.Rows.{current_number, incoming_is, nothing_incoming, commit_again, commit_none, commit_unlinked}
+use Rattle.mote_core.proofs.Commits.{commit_works, commit_does}
+use Rattle.mote_core.proofs.frames.commit.serve_commit.Goals as goal
+
+pub returns-then-standing-clause-works : goal.returns-then-standing-clause-works
+returns-then-standing-clause-works g c z t told stands is = idle t commit_frame z 1 _ told stands
+
+pub returns-then-standing-clause-does : goal.returns-then-standing-clause-does
+returns-then-standing-clause-does g c z t told stands is =
+    served_so t commit_frame (Committed c.args.standing.now.current.manifest.release) z (g.B.Board.view c.args.board.now) told stands (commit_again t _ (sym is.standing ∙ c.if-standing.true) (current_number t _ is))
+
+pub returns-in_default-clause-works : goal.returns-in_default-clause-works
+returns-in_default-clause-works g c z t told stands is = idle t commit_frame z 1 _ told stands
+
+pub returns-in_default-clause-does : goal.returns-in_default-clause-does
+returns-in_default-clause-does g c z t told stands is =
+    served_so t commit_frame NoManifest z (g.B.Board.view c.args.board.now) told stands (commit_none t (sym is.standing ∙ c.if-standing.false) (nothing_incoming t _ is c.in_default.is))
+
+pub returns-then-not-standing-clause-works : goal.returns-then-not-standing-clause-works
+returns-then-not-standing-clause-works g c z t told stands is = idle t commit_frame z 1 _ told stands
+
+pub returns-then-not-standing-clause-does : goal.returns-then-not-standing-clause-does
+returns-then-not-standing-clause-does g c z t told stands is =
+    served_so t commit_frame NotLinked z (g.B.Board.view c.args.board.now) told stands
+    (commit_unlinked t _ (sym is.standing ∙ c.if-standing.false) (incoming_is t _ c.in-Some.incoming is c.in-Some.is) (sym is.linked ∙ c.if-not-standing.true))
+
+pub returns-in_err-go-clause-works : goal.returns-in_err-go-clause-works
+returns-in_err-go-clause-works g c z t told stands is = commit_works z t _ _ stands (sym is.linked ∙ c.if-not-standing.false) (c.go.ensures.each z told)
+
+pub returns-clause-works : goal.returns-clause-works
+returns-clause-works g c z t told stands is = commit_works z t _ _ stands (sym is.linked ∙ c.if-not-standing.false) (c.go.ensures.each z told)
+
+pub returns-clause-does : goal.returns-clause-does
+returns-clause-does g c z t told stands is =
+    commit_does z t (stored_of c.in-Some.incoming) _ _ stands (sym is.standing ∙ c.if-standing.false) (incoming_is t _ c.in-Some.incoming is c.in-Some.is) (sym is.linked ∙ c.if-not-standing.false) refl (c.in_ok-go.ensures.ok z told)

@@ -1,0 +1,88 @@
+use Rattle.std.proofs.Common.{◌≡◌, true, false, Option, None, Some, refl, sym, ap, ◌∙◌, subst, arith}
+use Rattle.component_package.specs.declared.answer.Answer.{Answer}
+use Rattle.mote_core.specs.Serving.{link_pages}
+use Rattle.mote_core.specs.Links.{IsEarlyFree, Counts, Goes}
+use Rattle.mote_core.proofs.Links.{run_idle, run_then, read_then, read_only, weaker_run}
+use Rattle.mote_core.proofs.Chain.{refused_here, refused_late, linked_all}
+use Rattle.mote_core.proofs.frames.link.link_set.Goals as goal
+
+pub returns-in-Err-clause-links : goal.returns-in-Err-clause-links
+returns-in-Err-clause-links g c s told t linking flags =
+    refused_here t c.args.set.now c.in-Err.answer s (g.B.Board.view c.args.board.now) told linking (c.in-Err.ensures.refuses s linking.held)
+
+pub returns-in-Err-clause-leaves : goal.returns-in-Err-clause-leaves
+returns-in-Err-clause-leaves g c s told t linking flags =
+    run_idle s t 771 (g.B.Board.view c.args.board.now) told linking.stands
+
+pub returns-in-Ok-Some-clause-links : goal.returns-in-Ok-Some-clause-links
+returns-in-Ok-Some-clause-links g c s told t linking flags =
+    let room = c.in-Ok.ensures.room s linking.held in
+    let counts = subst (λ (o : Option Answer). Counts o c.args.set.now s) c.in-Ok-Some.field-0-is (c.in-Ok-Some.ensures.counts s told linking.held room) in
+    refused_here t c.args.set.now c.in-Ok-Some.answer s (g.B.Board.view c.count_set.new.board) (c.count_set.ensures.reads.state ∙ told) linking counts.0
+
+pub returns-in-Ok-Some-clause-leaves : goal.returns-in-Ok-Some-clause-leaves
+returns-in-Ok-Some-clause-leaves g c s told t linking flags =
+    read_only s t 771 (g.B.Board.view c.args.board.now) (g.B.Board.view c.count_set.new.board) told linking.stands c.count_set.ensures.reads
+
+pub returns-in-Err-count_set-clause-leaves : goal.returns-in-Err-count_set-clause-leaves
+returns-in-Err-count_set-clause-leaves g c s told t linking flags =
+    read_only s t 771 (g.B.Board.view c.args.board.now) (g.B.Board.view c.count_set.new.board) told linking.stands c.count_set.ensures.reads
+
+pub returns-in-Ok-Some-make_areas-clause-links : goal.returns-in-Ok-Some-make_areas-clause-links
+returns-in-Ok-Some-make_areas-clause-links g c s told t linking flags =
+    let room = c.in-Ok.ensures.room s linking.held in
+    let told_read = c.count_set.ensures.reads.state ∙ told in
+    let counts = subst (λ (o : Option Answer). Counts o c.args.set.now s) c.in-Ok-None.field-0-is (c.in-Ok-None.ensures.counts s told linking.held room) in
+    let early : IsEarlyFree c.args.set.now s = record { room = room; symbols = counts.0; relocs = counts.1 } in
+    refused_late t c.args.set.now c.in-Ok-Some-make_areas.answer s (g.B.Board.view c.make_areas.new.board) linking early
+    (subst (λ (o : Option Answer). Goes t c.args.set.now true true o s (g.B.Board.view c.make_areas.new.board)) c.in-Ok-Some-make_areas.field-0-is (c.in-Ok-Some-make_areas.ensures.goes s told_read t linking early flags))
+
+pub returns-in-Ok-Some-make_areas-clause-leaves : goal.returns-in-Ok-Some-make_areas-clause-leaves
+returns-in-Ok-Some-make_areas-clause-leaves g c s told t linking flags =
+    let room = c.in-Ok.ensures.room s linking.held in
+    let told_read = c.count_set.ensures.reads.state ∙ told in
+    let counts = subst (λ (o : Option Answer). Counts o c.args.set.now s) c.in-Ok-None.field-0-is (c.in-Ok-None.ensures.counts s told linking.held room) in
+    let early : IsEarlyFree c.args.set.now s = record { room = room; symbols = counts.0; relocs = counts.1 } in
+    read_then s t 771 (g.B.Board.view c.args.board.now) (g.B.Board.view c.count_set.new.board) (g.B.Board.view c.make_areas.new.board) told linking.stands c.count_set.ensures.reads (weaker_run s 290 771 (g.B.Board.view c.count_set.new.board) (g.B.Board.view c.make_areas.new.board) (omega arith) (c.make_areas.ensures.leaves s told_read t linking (early, flags)))
+
+pub returns-in-Err-make_areas-clause-leaves : goal.returns-in-Err-make_areas-clause-leaves
+returns-in-Err-make_areas-clause-leaves g c s told t linking flags =
+    let room = c.in-Ok.ensures.room s linking.held in
+    let told_read = c.count_set.ensures.reads.state ∙ told in
+    let counts = subst (λ (o : Option Answer). Counts o c.args.set.now s) c.in-Ok-None.field-0-is (c.in-Ok-None.ensures.counts s told linking.held room) in
+    let early : IsEarlyFree c.args.set.now s = record { room = room; symbols = counts.0; relocs = counts.1 } in
+    read_then s t 771 (g.B.Board.view c.args.board.now) (g.B.Board.view c.count_set.new.board) (g.B.Board.view c.make_areas.new.board) told linking.stands c.count_set.ensures.reads (weaker_run s 290 771 (g.B.Board.view c.count_set.new.board) (g.B.Board.view c.make_areas.new.board) (omega arith) (c.make_areas.ensures.leaves s told_read t linking (early, flags)))
+
+pub returns-in-Ok-make_image-clause-leaves : goal.returns-in-Ok-make_image-clause-leaves
+returns-in-Ok-make_image-clause-leaves g c s told t linking flags =
+    let room = c.in-Ok.ensures.room s linking.held in
+    let told_read = c.count_set.ensures.reads.state ∙ told in
+    let counts = subst (λ (o : Option Answer). Counts o c.args.set.now s) c.in-Ok-None.field-0-is (c.in-Ok-None.ensures.counts s told linking.held room) in
+    let early : IsEarlyFree c.args.set.now s = record { room = room; symbols = counts.0; relocs = counts.1 } in
+    let first = subst (λ (o : Option Answer). Goes t c.args.set.now true true o s (g.B.Board.view c.make_areas.new.board)) c.in-Ok-None-make_areas.field-0-is (c.in-Ok-None-make_areas.ensures.goes s told_read t linking early flags) in
+    let gates = first.gates refl in
+    read_then s t 771 (g.B.Board.view c.args.board.now) (g.B.Board.view c.count_set.new.board) (g.B.Board.view c.make_image.new.board) told linking.stands c.count_set.ensures.reads
+    (run_then link_pages s first.end 290 481 (g.B.Board.view c.count_set.new.board) (g.B.Board.view c.make_areas.new.board) (g.B.Board.view c.make_image.new.board) first.told (c.make_areas.ensures.leaves s told_read t linking (early, flags))
+    (c.make_image.ensures.leaves first.end first.told t first.linking (gates.rel_is, gates.img_is ∙ flags.img_is)))
+
+pub returns-in-Err-make_image-clause-leaves : goal.returns-in-Err-make_image-clause-leaves
+returns-in-Err-make_image-clause-leaves g c s told t linking flags =
+    let room = c.in-Ok.ensures.room s linking.held in
+    let told_read = c.count_set.ensures.reads.state ∙ told in
+    let counts = subst (λ (o : Option Answer). Counts o c.args.set.now s) c.in-Ok-None.field-0-is (c.in-Ok-None.ensures.counts s told linking.held room) in
+    let early : IsEarlyFree c.args.set.now s = record { room = room; symbols = counts.0; relocs = counts.1 } in
+    let first = subst (λ (o : Option Answer). Goes t c.args.set.now true true o s (g.B.Board.view c.make_areas.new.board)) c.in-Ok-None-make_areas.field-0-is (c.in-Ok-None-make_areas.ensures.goes s told_read t linking early flags) in
+    let gates = first.gates refl in
+    read_then s t 771 (g.B.Board.view c.args.board.now) (g.B.Board.view c.count_set.new.board) (g.B.Board.view c.make_image.new.board) told linking.stands c.count_set.ensures.reads
+    (run_then link_pages s first.end 290 481 (g.B.Board.view c.count_set.new.board) (g.B.Board.view c.make_areas.new.board) (g.B.Board.view c.make_image.new.board) first.told (c.make_areas.ensures.leaves s told_read t linking (early, flags))
+    (c.make_image.ensures.leaves first.end first.told t first.linking (gates.rel_is, gates.img_is ∙ flags.img_is)))
+
+pub returns-in-Ok-make_image-clause-links : goal.returns-in-Ok-make_image-clause-links
+returns-in-Ok-make_image-clause-links g c s told t linking flags =
+    let room = c.in-Ok.ensures.room s linking.held in
+    let told_read = c.count_set.ensures.reads.state ∙ told in
+    let counts = subst (λ (o : Option Answer). Counts o c.args.set.now s) c.in-Ok-None.field-0-is (c.in-Ok-None.ensures.counts s told linking.held room) in
+    let early : IsEarlyFree c.args.set.now s = record { room = room; symbols = counts.0; relocs = counts.1 } in
+    let first = subst (λ (o : Option Answer). Goes t c.args.set.now true true o s (g.B.Board.view c.make_areas.new.board)) c.in-Ok-None-make_areas.field-0-is (c.in-Ok-None-make_areas.ensures.goes s told_read t linking early flags) in
+    let gates = first.gates refl in
+    linked_all t c.args.set.now _ s (g.B.Board.view c.make_areas.new.board) (g.B.Board.view c.make_image.new.board) linking first refl (c.in-Ok-make_image.ensures.done first.end first.told t first.linking gates.rel_is (gates.img_is ∙ flags.img_is))

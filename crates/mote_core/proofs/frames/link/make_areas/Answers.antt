@@ -1,0 +1,42 @@
+use Rattle.std.proofs.Common.{◌≡◌, true, false, Option, None, Some, refl, sym, ap, ◌∙◌, subst, arith}
+use Rattle.component_package.specs.declared.answer.Answer.{Answer}
+use Rattle.component_package.specs.mote.Sides.{rel}
+use Rattle.install_journal.specs.Steps.{parts}
+use Rattle.mote_core.specs.Serving.{link_pages}
+use Rattle.mote_core.specs.Links.{Goes}
+use Rattle.mote_core.proofs.Links.{run_then, weaker_run}
+use Rattle.mote_core.proofs.Chain.{goes_on, goes_refused}
+use Rattle.mote_core.proofs.frames.link.make_areas.Goals as goal
+
+pub returns-in-Ok-Some-clause-goes : goal.returns-in-Ok-Some-clause-goes
+returns-in-Ok-Some-clause-goes g c s told t linking early flags =
+    goes_refused t c.args.set.now true ((parts s).gates rel) true true c.in-Ok-Some.answer s (g.B.Board.view c.make_symbols.new.board)
+    (subst (λ (o : Option Answer). Goes t c.args.set.now true ((parts s).gates rel) o s (g.B.Board.view c.make_symbols.new.board)) c.in-Ok-Some.field-0-is (c.in-Ok-Some.ensures.goes s told t linking early flags.sym_is))
+
+pub returns-in-Ok-Some-clause-leaves : goal.returns-in-Ok-Some-clause-leaves
+returns-in-Ok-Some-clause-leaves g c s told t linking p =
+    weaker_run s 33 290 (g.B.Board.view c.args.board.now) (g.B.Board.view c.make_symbols.new.board) (omega arith) (c.make_symbols.ensures.leaves s told t linking (p.0, p.1.sym_is))
+
+pub returns-in-Err-clause-leaves : goal.returns-in-Err-clause-leaves
+returns-in-Err-clause-leaves g c s told t linking p =
+    weaker_run s 33 290 (g.B.Board.view c.args.board.now) (g.B.Board.view c.make_symbols.new.board) (omega arith) (c.make_symbols.ensures.leaves s told t linking (p.0, p.1.sym_is))
+
+pub returns-in-Ok-clause-goes : goal.returns-in-Ok-clause-goes
+returns-in-Ok-clause-goes g c s told t linking early flags =
+    let first = subst (λ (o : Option Answer). Goes t c.args.set.now true ((parts s).gates rel) o s (g.B.Board.view c.make_symbols.new.board)) c.in-Ok-None.field-0-is (c.in-Ok-None.ensures.goes s told t linking early flags.sym_is) in
+    let gates = first.gates refl in
+    goes_on t c.args.set.now ((parts s).gates rel) c.in-Ok.answer s (g.B.Board.view c.make_symbols.new.board) (g.B.Board.view c.make_relocs.new.board) linking first (c.in-Ok.ensures.goes first.end first.told t first.linking gates.sym_is (flags.rel_is ∙ sym gates.rel_is))
+
+pub returns-in-Ok-clause-leaves : goal.returns-in-Ok-clause-leaves
+returns-in-Ok-clause-leaves g c s told t linking p =
+    let first = subst (λ (o : Option Answer). Goes t c.args.set.now true ((parts s).gates rel) o s (g.B.Board.view c.make_symbols.new.board)) c.in-Ok-None.field-0-is (c.in-Ok-None.ensures.goes s told t linking p.0 p.1.sym_is) in
+    let gates = first.gates refl in
+    run_then link_pages s first.end 33 257 (g.B.Board.view c.args.board.now) (g.B.Board.view c.make_symbols.new.board) (g.B.Board.view c.make_relocs.new.board) first.told (c.make_symbols.ensures.leaves s told t linking (p.0, p.1.sym_is))
+    (c.make_relocs.ensures.leaves first.end first.told t first.linking (gates.sym_is, p.1.rel_is ∙ sym gates.rel_is))
+
+pub returns-in-Err-make_relocs-clause-leaves : goal.returns-in-Err-make_relocs-clause-leaves
+returns-in-Err-make_relocs-clause-leaves g c s told t linking p =
+    let first = subst (λ (o : Option Answer). Goes t c.args.set.now true ((parts s).gates rel) o s (g.B.Board.view c.make_symbols.new.board)) c.in-Ok-None.field-0-is (c.in-Ok-None.ensures.goes s told t linking p.0 p.1.sym_is) in
+    let gates = first.gates refl in
+    run_then link_pages s first.end 33 257 (g.B.Board.view c.args.board.now) (g.B.Board.view c.make_symbols.new.board) (g.B.Board.view c.make_relocs.new.board) first.told (c.make_symbols.ensures.leaves s told t linking (p.0, p.1.sym_is))
+    (c.make_relocs.ensures.leaves first.end first.told t first.linking (gates.sym_is, p.1.rel_is ∙ sym gates.rel_is))

@@ -1,0 +1,51 @@
+use Rattle.std.proofs.Common.{◌≡◌, ℕ, List, true, false, Option, Some, None, refl, sym, ap, ◌∙◌, subst, arith}
+use Rattle.std.proofs.lemmas.Option.{same_Some}
+use Rattle.flash_pages.specs.State.{State}
+use Rattle.install_journal.specs.declared.gates.Stage.TheVariants as stages
+use Rattle.image_stage.specs.Staged.{staged_pages}
+use Rattle.mote_core.specs.Serving.{link_pages}
+use Rattle.mote_core.proofs.Links.{run_then, weaker_run, has_listed, has_pages, staged_run, staged_linking, staged_vouched, marks_run, staged_done}
+use Rattle.mote_core.proofs.frames.link.make_image.Goals as goal
+
+pub returns-in_err-stage-clause-leaves : goal.returns-in_err-stage-clause-leaves
+returns-in_err-stage-clause-leaves g c s told t linking p =
+    weaker_run s 480 481 (g.B.Board.view c.args.board.now) (g.B.Board.view c.stage.new.board) (omega arith) (staged_run t c.args.set.now s (g.B.Board.view c.args.board.now) (g.B.Board.view c.stage.new.board) linking p.1 (c.stage.ensures.each s told))
+
+pub returns-in_err-mark-clause-leaves : goal.returns-in_err-mark-clause-leaves
+returns-in_err-mark-clause-leaves g c s told t linking p =
+    let is_open = p.0 in
+    let closed = p.1 in
+    let set = c.args.set.now in
+    let run = c.stage.ensures.each s told in
+    let listing = has_listed t set s linking is_open in
+    let pages = has_pages t set s ((g.B.Board.view c.args.board.now).sizes s told) c.requires.set.manifest.stored linking listing in
+    let has = c.in_ok-stage.ensures.ok s told pages.pages pages.are in
+    let are = ap staged_pages (same_Some run.end has.state (sym run.told ∙ has.told)) ∙ has.are in
+    let vouched = staged_vouched t set s run.end linking is_open closed run.ends pages are in
+    run_then link_pages s run.end 480 1 (g.B.Board.view c.args.board.now) (g.B.Board.view c.stage.new.board) (g.B.Board.view c.mark.new.board) run.told (staged_run t set s (g.B.Board.view c.args.board.now) (g.B.Board.view c.stage.new.board) linking closed run)
+    (marks_run t set stages.Image run.end (g.B.Board.view c.stage.new.board) (g.B.Board.view c.mark.new.board) (staged_linking t set s run.end linking closed run.ends) vouched (c.mark.ensures.each run.end run.told))
+
+pub returns-clause-leaves : goal.returns-clause-leaves
+returns-clause-leaves g c s told t linking p =
+    let is_open = p.0 in
+    let closed = p.1 in
+    let set = c.args.set.now in
+    let run = c.stage.ensures.each s told in
+    let listing = has_listed t set s linking is_open in
+    let pages = has_pages t set s ((g.B.Board.view c.args.board.now).sizes s told) c.requires.set.manifest.stored linking listing in
+    let has = c.in_ok-stage.ensures.ok s told pages.pages pages.are in
+    let are = ap staged_pages (same_Some run.end has.state (sym run.told ∙ has.told)) ∙ has.are in
+    let vouched = staged_vouched t set s run.end linking is_open closed run.ends pages are in
+    run_then link_pages s run.end 480 1 (g.B.Board.view c.args.board.now) (g.B.Board.view c.stage.new.board) (g.B.Board.view c.mark.new.board) run.told (staged_run t set s (g.B.Board.view c.args.board.now) (g.B.Board.view c.stage.new.board) linking closed run)
+    (marks_run t set stages.Image run.end (g.B.Board.view c.stage.new.board) (g.B.Board.view c.mark.new.board) (staged_linking t set s run.end linking closed run.ends) vouched (c.mark.ensures.each run.end run.told))
+
+pub returns-clause-done : goal.returns-clause-done
+returns-clause-done g c s told t linking is_open closed =
+    let set = c.args.set.now in
+    let run = c.stage.ensures.each s told in
+    let listing = has_listed t set s linking is_open in
+    let pages = has_pages t set s ((g.B.Board.view c.args.board.now).sizes s told) c.requires.set.manifest.stored linking listing in
+    let has = c.in_ok-stage.ensures.ok s told pages.pages pages.are in
+    let are = ap staged_pages (same_Some run.end has.state (sym run.told ∙ has.told)) ∙ has.are in
+    let vouched = staged_vouched t set s run.end linking is_open closed run.ends pages are in
+    staged_done t set s run.end (g.B.Board.view c.mark.new.board) (staged_linking t set s run.end linking closed run.ends) vouched listing.free (c.in_ok-mark.ensures.ok run.end run.told)

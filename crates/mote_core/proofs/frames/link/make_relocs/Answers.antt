@@ -1,0 +1,87 @@
+use Rattle.std.proofs.Common.{◌≡◌, ℕ, List, true, false, Option, Some, None, is_some, refl, sym, ap, ◌∙◌, subst, arith, Err}
+use Rattle.std.proofs.lemmas.Option.{same_Some}
+use Rattle.flash_pages.specs.State.{State}
+use Rattle.component_package.specs.link.Areas.{Lists}
+use Rattle.component_package.specs.link.Pages.{listed}
+use Rattle.install_journal.specs.declared.gates.Stage.TheVariants as stages
+use Rattle.symbol_merge.specs.Stored.{set_in, symbol_area}
+use Rattle.reloc_table.specs.List.{list_area}
+use Rattle.mote_core.specs.Serving.{link_pages}
+use Rattle.mote_core.proofs.Links.{run_idle, run_then, read_then, read_only, weaker_run, done_linking, site_found, has_merged, relocs_run, relocs_linking, listed_vouched, listed_goes, marks_run, site_refuses, site_calm}
+use Rattle.std.proofs.lemmas.Bool.{false≢true}
+use Rattle.mote_core.proofs.frames.link.make_relocs.Goals as goal
+
+pub returns-then-is_made-clause-goes : goal.returns-then-is_made-clause-goes
+returns-then-is_made-clause-goes g c s told t linking is_open made =
+    done_linking t c.args.set.now true true s (g.B.Board.view c.args.board.now) told linking is_open (sym made ∙ c.if-is_made.true)
+
+pub returns-then-is_made-clause-leaves : goal.returns-then-is_made-clause-leaves
+returns-then-is_made-clause-leaves g c s told t linking p =
+    run_idle s t 257 (g.B.Board.view c.args.board.now) told linking.stands
+
+pub returns-then-is_none-clause-leaves : goal.returns-then-is_none-clause-leaves
+returns-then-is_none-clause-leaves g c s told t linking p =
+    read_only s t 257 (g.B.Board.view c.args.board.now) (g.B.Board.view c.check_relocs.new.board) told linking.stands c.check_relocs.ensures.reads
+
+pub returns-in-Err-clause-leaves : goal.returns-in-Err-clause-leaves
+returns-in-Err-clause-leaves g c s told t linking p =
+    read_only s t 257 (g.B.Board.view c.args.board.now) (g.B.Board.view c.check_relocs.new.board) told linking.stands c.check_relocs.ensures.reads
+
+pub returns-in-Err-clause-goes : goal.returns-in-Err-clause-goes
+returns-in-Err-clause-goes g c s told t linking is_open made =
+    let set = c.args.set.now in
+    let merged = has_merged t set s linking is_open in
+    site_found t set true true c.site_answer-answer.result s (g.B.Board.view c.check_relocs.new.board) (c.check_relocs.ensures.reads.state ∙ told) linking
+    (λ none. false≢true (sym (ap is_some none) ∙ c.if-is_none.ensures))
+    (λ b some. let found = sym c.site_answer-answer.ensures ∙ some in
+    site_refuses (Unit {0}) set s c.in-Err.fault b merged (c.in-Err.ensures.own (site_calm (Unit {0}) c.in-Err.fault b found) s told linking.held merged.table merged.is merged.tells) found)
+
+pub returns-in_err-build-clause-leaves : goal.returns-in_err-build-clause-leaves
+returns-in_err-build-clause-leaves g c s told t linking p =
+    let told_read = c.check_relocs.ensures.reads.state ∙ told in
+    read_then s t 257 (g.B.Board.view c.args.board.now) (g.B.Board.view c.check_relocs.new.board) (g.B.Board.view c.build.new.board) told linking.stands c.check_relocs.ensures.reads (weaker_run s 256 257 (g.B.Board.view c.check_relocs.new.board) (g.B.Board.view c.build.new.board) (omega arith) (relocs_run t c.args.set.now s (g.B.Board.view c.check_relocs.new.board) (g.B.Board.view c.build.new.board) linking (sym p.1 ∙ c.if-is_made.false) (c.build.ensures.each s told_read)))
+
+pub returns-in_err-mark-clause-leaves : goal.returns-in_err-mark-clause-leaves
+returns-in_err-mark-clause-leaves g c s told t linking p =
+    let is_open = p.0 in
+    let closed = sym p.1 ∙ c.if-is_made.false in
+    let set = c.args.set.now in
+    let merged = has_merged t set s linking is_open in
+    let told_read = c.check_relocs.ensures.reads.state ∙ told in
+    let none = c.in-Ok.ensures.own refl s told linking.held merged.table merged.is merged.tells in
+    let run = c.build.ensures.each s told_read in
+    let has = c.in_ok-build.ensures.ok s told_read linking.held merged.table merged.tells in
+    let lists = subst (λ (y : State). Lists (list_area y) (listed (set_in s set) merged.table)) (same_Some has.state run.end (sym has.told ∙ run.told)) has.lists in
+    let vouched = listed_vouched t set s run.end linking is_open closed run.ends merged ((g.B.Board.view c.build.new.board).sizes run.end run.told) none lists in
+    read_then s t 257 (g.B.Board.view c.args.board.now) (g.B.Board.view c.check_relocs.new.board) (g.B.Board.view c.mark.new.board) told linking.stands c.check_relocs.ensures.reads
+    (run_then link_pages s run.end 256 1 (g.B.Board.view c.check_relocs.new.board) (g.B.Board.view c.build.new.board) (g.B.Board.view c.mark.new.board) run.told (relocs_run t set s (g.B.Board.view c.check_relocs.new.board) (g.B.Board.view c.build.new.board) linking closed run)
+    (marks_run t set stages.Relocs run.end (g.B.Board.view c.build.new.board) (g.B.Board.view c.mark.new.board) (relocs_linking t set s run.end linking closed run.ends) vouched (c.mark.ensures.each run.end run.told)))
+
+pub returns-clause-leaves : goal.returns-clause-leaves
+returns-clause-leaves g c s told t linking p =
+    let is_open = p.0 in
+    let closed = sym p.1 ∙ c.if-is_made.false in
+    let set = c.args.set.now in
+    let merged = has_merged t set s linking is_open in
+    let told_read = c.check_relocs.ensures.reads.state ∙ told in
+    let none = c.in-Ok.ensures.own refl s told linking.held merged.table merged.is merged.tells in
+    let run = c.build.ensures.each s told_read in
+    let has = c.in_ok-build.ensures.ok s told_read linking.held merged.table merged.tells in
+    let lists = subst (λ (y : State). Lists (list_area y) (listed (set_in s set) merged.table)) (same_Some has.state run.end (sym has.told ∙ run.told)) has.lists in
+    let vouched = listed_vouched t set s run.end linking is_open closed run.ends merged ((g.B.Board.view c.build.new.board).sizes run.end run.told) none lists in
+    read_then s t 257 (g.B.Board.view c.args.board.now) (g.B.Board.view c.check_relocs.new.board) (g.B.Board.view c.mark.new.board) told linking.stands c.check_relocs.ensures.reads
+    (run_then link_pages s run.end 256 1 (g.B.Board.view c.check_relocs.new.board) (g.B.Board.view c.build.new.board) (g.B.Board.view c.mark.new.board) run.told (relocs_run t set s (g.B.Board.view c.check_relocs.new.board) (g.B.Board.view c.build.new.board) linking closed run)
+    (marks_run t set stages.Relocs run.end (g.B.Board.view c.build.new.board) (g.B.Board.view c.mark.new.board) (relocs_linking t set s run.end linking closed run.ends) vouched (c.mark.ensures.each run.end run.told)))
+
+pub returns-clause-goes : goal.returns-clause-goes
+returns-clause-goes g c s told t linking is_open made =
+    let closed = sym made ∙ c.if-is_made.false in
+    let set = c.args.set.now in
+    let merged = has_merged t set s linking is_open in
+    let told_read = c.check_relocs.ensures.reads.state ∙ told in
+    let none = c.in-Ok.ensures.own refl s told linking.held merged.table merged.is merged.tells in
+    let run = c.build.ensures.each s told_read in
+    let has = c.in_ok-build.ensures.ok s told_read linking.held merged.table merged.tells in
+    let lists = subst (λ (y : State). Lists (list_area y) (listed (set_in s set) merged.table)) (same_Some has.state run.end (sym has.told ∙ run.told)) has.lists in
+    let vouched = listed_vouched t set s run.end linking is_open closed run.ends merged ((g.B.Board.view c.build.new.board).sizes run.end run.told) none lists in
+    listed_goes t set s run.end linking is_open closed run.ends (g.B.Board.view c.mark.new.board) vouched (c.in_ok-mark.ensures.ok run.end run.told)

@@ -1,0 +1,84 @@
+use Rattle.std.proofs.Common.{◌≡◌, ℕ, List, [], refl, sym, ap, ◌∙◌, subst, arith}
+use Rattle.component_package.specs.declared.answer.Answer.TheVariants.{Ended}
+use Rattle.mote_laws.specs.Stands.{commit_frame}
+use Rattle.mote_core.specs.Reading.{frame_of}
+use Rattle.mote_core.specs.Frames.{link_frame, status_frame, abort_frame}
+use Rattle.mote_core.proofs.FrameKinds.{bare, within_eight, same_frame, kind_frame, end_frame}
+use Rattle.mote_core.proofs.Dispatch.{known_works, known_does, read_works, read_does, tells_works, tells_does}
+use Rattle.mote_core.proofs.serving.serve_known.Goals as goal
+
+pub returns-in_default-clause-works : goal.returns-in_default-clause-works
+returns-in_default-clause-works g c =
+    known_works c.args.standing.now (frame_of c.args.kind c.args.payload.now) (frame_of 1 c.args.payload.now) (kind_frame c.args.kind 1 c.args.payload.now c.if-kind-eq-MANIFEST.true) (g.B.Board.view c.args.board.now) (g.B.Board.view c.serve_manifest.new.board) c.in_default.ensures.works
+
+pub returns-then-kind-eq-MANIFEST-clause-works : goal.returns-then-kind-eq-MANIFEST-clause-works
+returns-then-kind-eq-MANIFEST-clause-works g c =
+    known_works c.args.standing.now (frame_of c.args.kind c.args.payload.now) (frame_of 1 c.args.payload.now) (kind_frame c.args.kind 1 c.args.payload.now c.if-kind-eq-MANIFEST.true) (g.B.Board.view c.args.board.now) (g.B.Board.view c.serve_manifest.new.board) c.in-Ok.ensures.works
+
+pub returns-then-kind-eq-MANIFEST-clause-does : goal.returns-then-kind-eq-MANIFEST-clause-does
+returns-then-kind-eq-MANIFEST-clause-does g c =
+    known_does c.args.standing.now (frame_of c.args.kind c.args.payload.now) (frame_of 1 c.args.payload.now) (kind_frame c.args.kind 1 c.args.payload.now c.if-kind-eq-MANIFEST.true) (g.B.Board.view c.args.board.now) (g.B.Board.view c.serve_manifest.new.board) c.in-Ok.answer c.in-Ok.ensures.does
+
+pub returns-in_default-serve_piece-clause-works : goal.returns-in_default-serve_piece-clause-works
+returns-in_default-serve_piece-clause-works g c =
+    known_works c.args.standing.now (frame_of c.args.kind c.args.payload.now) (frame_of 2 c.args.payload.now) (kind_frame c.args.kind 2 c.args.payload.now c.if-kind-eq-PIECE.true) (g.B.Board.view c.args.board.now) (g.B.Board.view c.serve_piece.new.board) c.in_default-serve_piece.ensures.works
+
+pub returns-then-kind-eq-PIECE-clause-works : goal.returns-then-kind-eq-PIECE-clause-works
+returns-then-kind-eq-PIECE-clause-works g c =
+    known_works c.args.standing.now (frame_of c.args.kind c.args.payload.now) (frame_of 2 c.args.payload.now) (kind_frame c.args.kind 2 c.args.payload.now c.if-kind-eq-PIECE.true) (g.B.Board.view c.args.board.now) (g.B.Board.view c.serve_piece.new.board) c.in-Ok-serve_piece.ensures.works
+
+pub returns-then-kind-eq-PIECE-clause-does : goal.returns-then-kind-eq-PIECE-clause-does
+returns-then-kind-eq-PIECE-clause-does g c =
+    known_does c.args.standing.now (frame_of c.args.kind c.args.payload.now) (frame_of 2 c.args.payload.now) (kind_frame c.args.kind 2 c.args.payload.now c.if-kind-eq-PIECE.true) (g.B.Board.view c.args.board.now) (g.B.Board.view c.serve_piece.new.board) c.in-Ok-serve_piece.answer c.in-Ok-serve_piece.ensures.does
+
+pub returns-in_default-serve_link-clause-works : goal.returns-in_default-serve_link-clause-works
+returns-in_default-serve_link-clause-works g c =
+    read_works c.args.standing.now (frame_of c.args.kind c.args.payload.now) link_frame (same_frame c.args.kind 3 c.args.payload.now c.if-kind-eq-LINK.true (bare c.args.kind c.args.payload.now c.requires.good (omega (arith, c.if-kind-eq-LINK.true)))) (g.B.Board.view c.args.board.now) (g.B.Board.view c.serve_link.new.board) c.in_default-serve_link.ensures.works
+
+pub returns-then-kind-eq-LINK-clause-works : goal.returns-then-kind-eq-LINK-clause-works
+returns-then-kind-eq-LINK-clause-works g c =
+    read_works c.args.standing.now (frame_of c.args.kind c.args.payload.now) link_frame (same_frame c.args.kind 3 c.args.payload.now c.if-kind-eq-LINK.true (bare c.args.kind c.args.payload.now c.requires.good (omega (arith, c.if-kind-eq-LINK.true)))) (g.B.Board.view c.args.board.now) (g.B.Board.view c.serve_link.new.board) c.in-Ok-serve_link.ensures.works
+
+pub returns-then-kind-eq-LINK-clause-does : goal.returns-then-kind-eq-LINK-clause-does
+returns-then-kind-eq-LINK-clause-does g c =
+    read_does c.args.standing.now (frame_of c.args.kind c.args.payload.now) link_frame (same_frame c.args.kind 3 c.args.payload.now c.if-kind-eq-LINK.true (bare c.args.kind c.args.payload.now c.requires.good (omega (arith, c.if-kind-eq-LINK.true)))) (g.B.Board.view c.args.board.now) (g.B.Board.view c.serve_link.new.board) c.in-Ok-serve_link.answer c.in-Ok-serve_link.ensures.does
+
+pub returns-in_default-serve_commit-clause-works : goal.returns-in_default-serve_commit-clause-works
+returns-in_default-serve_commit-clause-works g c =
+    known_works c.args.standing.now (frame_of c.args.kind c.args.payload.now) commit_frame (same_frame c.args.kind 4 c.args.payload.now c.if-kind-eq-COMMIT.true (bare c.args.kind c.args.payload.now c.requires.good (omega (arith, c.if-kind-eq-COMMIT.true)))) (g.B.Board.view c.args.board.now) (g.B.Board.view c.serve_commit.new.board) c.in_default-serve_commit.ensures.works
+
+pub returns-then-kind-eq-COMMIT-clause-works : goal.returns-then-kind-eq-COMMIT-clause-works
+returns-then-kind-eq-COMMIT-clause-works g c =
+    known_works c.args.standing.now (frame_of c.args.kind c.args.payload.now) commit_frame (same_frame c.args.kind 4 c.args.payload.now c.if-kind-eq-COMMIT.true (bare c.args.kind c.args.payload.now c.requires.good (omega (arith, c.if-kind-eq-COMMIT.true)))) (g.B.Board.view c.args.board.now) (g.B.Board.view c.serve_commit.new.board) c.in-Ok-serve_commit.ensures.works
+
+pub returns-then-kind-eq-COMMIT-clause-does : goal.returns-then-kind-eq-COMMIT-clause-does
+returns-then-kind-eq-COMMIT-clause-does g c =
+    known_does c.args.standing.now (frame_of c.args.kind c.args.payload.now) commit_frame (same_frame c.args.kind 4 c.args.payload.now c.if-kind-eq-COMMIT.true (bare c.args.kind c.args.payload.now c.requires.good (omega (arith, c.if-kind-eq-COMMIT.true)))) (g.B.Board.view c.args.board.now) (g.B.Board.view c.serve_commit.new.board) c.in-Ok-serve_commit.answer c.in-Ok-serve_commit.ensures.does
+
+pub returns-then-kind-eq-STATUS-clause-works : goal.returns-then-kind-eq-STATUS-clause-works
+returns-then-kind-eq-STATUS-clause-works g c =
+    tells_works c.args.standing.now (frame_of c.args.kind c.args.payload.now) (g.B.Board.view c.args.board.now)
+
+pub returns-then-kind-eq-STATUS-clause-does : goal.returns-then-kind-eq-STATUS-clause-does
+returns-then-kind-eq-STATUS-clause-does g c =
+    tells_does c.args.standing.now (frame_of c.args.kind c.args.payload.now) status_frame (g.B.Board.view c.args.board.now) c.status_of.result (same_frame c.args.kind 6 c.args.payload.now c.if-kind-eq-STATUS.true (bare c.args.kind c.args.payload.now c.requires.good (omega (arith, c.if-kind-eq-STATUS.true)))) c.status_of.ensures (λ t. refl)
+
+pub returns-in_default-serve_abort-clause-works : goal.returns-in_default-serve_abort-clause-works
+returns-in_default-serve_abort-clause-works g c =
+    known_works c.args.standing.now (frame_of c.args.kind c.args.payload.now) abort_frame (same_frame c.args.kind 7 c.args.payload.now c.if-kind-eq-ABORT.true (bare c.args.kind c.args.payload.now c.requires.good (omega (arith, c.if-kind-eq-ABORT.true)))) (g.B.Board.view c.args.board.now) (g.B.Board.view c.serve_abort.new.board) c.in_default-serve_abort.ensures.works
+
+pub returns-then-kind-eq-ABORT-clause-works : goal.returns-then-kind-eq-ABORT-clause-works
+returns-then-kind-eq-ABORT-clause-works g c =
+    known_works c.args.standing.now (frame_of c.args.kind c.args.payload.now) abort_frame (same_frame c.args.kind 7 c.args.payload.now c.if-kind-eq-ABORT.true (bare c.args.kind c.args.payload.now c.requires.good (omega (arith, c.if-kind-eq-ABORT.true)))) (g.B.Board.view c.args.board.now) (g.B.Board.view c.serve_abort.new.board) c.in-Ok-serve_abort.ensures.works
+
+pub returns-then-kind-eq-ABORT-clause-does : goal.returns-then-kind-eq-ABORT-clause-does
+returns-then-kind-eq-ABORT-clause-does g c =
+    known_does c.args.standing.now (frame_of c.args.kind c.args.payload.now) abort_frame (same_frame c.args.kind 7 c.args.payload.now c.if-kind-eq-ABORT.true (bare c.args.kind c.args.payload.now c.requires.good (omega (arith, c.if-kind-eq-ABORT.true)))) (g.B.Board.view c.args.board.now) (g.B.Board.view c.serve_abort.new.board) c.in-Ok-serve_abort.answer c.in-Ok-serve_abort.ensures.does
+
+pub returns-clause-works : goal.returns-clause-works
+returns-clause-works g c =
+    tells_works c.args.standing.now (frame_of c.args.kind c.args.payload.now) (g.B.Board.view c.args.board.now)
+
+pub returns-clause-does : goal.returns-clause-does
+returns-clause-does g c =
+    tells_does c.args.standing.now (frame_of c.args.kind c.args.payload.now) (frame_of 8 []) (g.B.Board.view c.args.board.now) Ended (end_frame c.args.kind c.args.payload.now c.requires.good c.if-kind-eq-MANIFEST.false c.if-kind-eq-PIECE.false c.if-kind-eq-LINK.false c.if-kind-eq-COMMIT.false c.requires.other c.if-kind-eq-STATUS.false c.if-kind-eq-ABORT.false) (λ t is. refl) (λ t. refl)

@@ -1,0 +1,88 @@
+//! An empty board.
+//!
+//! The first program closes the gate Fmt and the last one opens it, so a cut between them leaves a board that no session takes for formatted.
+
+ghost use Rattle.std.specs.Prelude.{◌≡◌, true, OnOk, Some};
+ghost use Rattle.flash_pages.specs.Board.{UsesFlash, Told, FlashFaults};
+ghost use Rattle.flash_pages.specs.Moments.{LeavesOnly};
+ghost use Rattle.mote_core.specs.Running.{TellsFaults};
+ghost use Rattle.mote_core.specs.Commands.{code_of, ends_writing};
+ghost use Rattle.mote_core.specs.declared.status.Status.TheVariants.{Ended};
+ghost use Rattle.mote_core.specs.Format.{cleared, blanked, emptied, Clears, OnlyProg, FormatLeaves, HasFormatted};
+
+use crate::sending::send_all;
+use crate::status::Status;
+use component_package::areas::IMAGE_PAGES;
+use external_flash::{Gate, open_gate};
+use flash_pages::page::blank;
+use flash_pages::{Board, Failed};
+
+// How many pages external flash has.
+const EXT_PAGES: u16 = 2048;
+
+// Programs every page of external flash with zeros, page 0 first.
+fn clear_ext<B: Board>(board: &mut B) -> Result<(), Failed>
+    ensures ok { OnOk result (Told (B.view board.old) (λ s.
+        (B.view board.new).state ≡ Some (cleared 2048 s))) }
+    ensures each { Told (B.view board.old) (λ s.
+        LeavesOnly (Clears s) 2048 (B.view board.old) (B.view board.new)) }
+    ensures uses { UsesFlash (B.view board.old) (B.view board.new) }
+    ensures faults { FlashFaults result (B.view board.old) (B.view board.new) }
+{
+    for page in 0..EXT_PAGES {
+        board.ext_program(page, &[0; 256])?;
+    }
+    Ok(())
+}
+
+// Programs every page of program flash with 0xFF.
+fn blank_prog<B: Board>(board: &mut B) -> Result<(), Failed>
+    ensures ok { OnOk result (Told (B.view board.old) (λ s.
+        (B.view board.new).state ≡ Some (blanked 480 s))) }
+    ensures each { Told (B.view board.old) (λ s.
+        LeavesOnly (OnlyProg s) 480 (B.view board.old) (B.view board.new)) }
+    ensures uses { UsesFlash (B.view board.old) (B.view board.new) }
+    ensures faults { FlashFaults result (B.view board.old) (B.view board.new) }
+{
+    for page in 0..IMAGE_PAGES {
+        board.prog_program(page, &blank())?;
+    }
+    Ok(())
+}
+
+// Leaves an empty board, which nothing was sent of yet.
+fn empty<B: Board>(board: &mut B) -> Result<(), Failed>
+    ensures ok { OnOk result (Told (B.view board.old) (λ s.
+        (B.view board.new).state ≡ Some (emptied s))) }
+    ensures each { Told (B.view board.old) (λ s.
+        LeavesOnly (FormatLeaves s) 2529 (B.view board.old) (B.view board.new)) }
+    ensures uses { UsesFlash (B.view board.old) (B.view board.new) }
+    ensures faults { FlashFaults result (B.view board.old) (B.view board.new) }
+{
+    clear_ext(board)?;
+    blank_prog(board)?;
+    open_gate(board, Gate::Fmt)?;
+    Ok(())
+}
+
+/// The command `format`: makes an empty board, which stands for release 0 without a component, and sends `formatted`. It programs every page,
+/// whatever it holds: external page 0 first, and again last.
+///
+/// `FlashFault` and `LineFault` come only where faults of that kind rose, else it is `Ended`.
+pub fn format<B: Board>(board: &mut B) -> Status
+    ensures done { result ≡ Ended → Told (B.view board.old) (λ s.
+        HasFormatted s (B.view board.new)) }
+    ensures each { Told (B.view board.old) (λ s.
+        LeavesOnly (FormatLeaves s) 2529 (B.view board.old) (B.view board.new)) }
+    ensures ends { ends_writing result ≡ true }
+    ensures left { (B.view board.new).left ≡ (B.view board.old).left }
+    ensures faults { TellsFaults (code_of result) (B.view board.old) (B.view board.new) }
+{
+    let Ok(()) = empty(board) else {
+        return Status::FlashFault;
+    };
+    let Ok(()) = send_all(board, b"formatted\n") else {
+        return Status::LineFault;
+    };
+    Status::Ended
+}

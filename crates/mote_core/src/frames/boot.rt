@@ -1,0 +1,27 @@
+//! BOOT.
+
+ghost use Rattle.std.specs.Prelude.{IfOk};
+ghost use Rattle.flash_pages.specs.Board.{UsesFlash, Told};
+ghost use Rattle.component_package.specs.mote.Machine.{boot_frame};
+ghost use Rattle.flash_pages.specs.Board.{FlashFaults};
+ghost use Rattle.install_journal.specs.Steps.{parts};
+ghost use Rattle.mote_core.specs.Serving.{LeavesWork, DoesWork, TellsFormatted};
+
+use boot_loader::{BootFault, boot};
+use component_package::Answer;
+use flash_pages::{Board, Failed};
+
+/// Starts the chosen release.
+pub(crate) fn serve_boot<B: Board>(board: &mut B) -> Result<Answer, Failed>
+    ensures works { LeavesWork boot_frame (B.view board.old) (B.view board.new) }
+    ensures does { IfOk result (λ a. DoesWork boot_frame (B.view board.old) (B.view board.new) a) }
+    ensures formatted { IfOk result (λ a. Told (B.view board.old) (λ z. TellsFormatted a (parts z))) }
+    ensures uses { UsesFlash (B.view board.old) (B.view board.new) }
+    ensures faults { FlashFaults result (B.view board.old) (B.view board.new) }
+{
+    match boot(board) {
+        Ok(release) => Ok(Answer::Booted(release)),
+        Err(BootFault::Unformatted) => Ok(Answer::Unformatted),
+        Err(BootFault::Fault) => Err(Failed),
+    }
+}

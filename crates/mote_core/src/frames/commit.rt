@@ -1,0 +1,31 @@
+//! COMMIT.
+
+ghost use Rattle.std.specs.Prelude.{IfOk};
+ghost use Rattle.flash_pages.specs.Board.{UsesFlash};
+ghost use Rattle.mote_laws.specs.Stands.{commit_frame};
+ghost use Rattle.flash_pages.specs.Board.{FlashFaults};
+ghost use Rattle.mote_core.specs.Frames.{LeavesKnown, DoesKnown};
+
+use component_package::Answer;
+use flash_pages::{Board, Failed};
+use install_journal::{Standing, go};
+
+/// Makes what is linked the release that boots next, with one program.
+pub(crate) fn serve_commit<B: Board>(board: &mut B, standing: &Standing) -> Result<Answer, Failed>
+    ensures works { LeavesKnown standing.now commit_frame (B.view board.old) (B.view board.new) }
+    ensures does { IfOk result (λ a. DoesKnown standing.now commit_frame (B.view board.old) (B.view board.new) a) }
+    ensures uses { UsesFlash (B.view board.old) (B.view board.new) }
+    ensures faults { FlashFaults result (B.view board.old) (B.view board.new) }
+{
+    if standing.pending {
+        return Ok(Answer::Committed(standing.current.manifest.release));
+    }
+    let Some(incoming) = &standing.incoming else {
+        return Ok(Answer::NoManifest);
+    };
+    if !standing.image {
+        return Ok(Answer::NotLinked);
+    }
+    go(board)?;
+    Ok(Answer::Committed(incoming.manifest.release))
+}

@@ -1,0 +1,261 @@
+//! LINK.
+
+ghost use Rattle.std.specs.Prelude.{length, true, false, OnOk, ◌≡◌, ◌≤◌, ℕ, IfOk, IfErr, Some, None, Option};
+ghost use Rattle.std.specs.Result.{result_err};
+ghost use Rattle.flash_pages.specs.State.{State};
+ghost use Rattle.flash_pages.specs.Board.{Reads, UsesFlash, FlashFaults, Told};
+ghost use Rattle.component_package.specs.link.Link.{rooms_of, room_cause, symbols_cause, relocations_cause};
+ghost use Rattle.component_package.specs.mote.Machine.{Mote};
+ghost use Rattle.component_package.specs.mote.Sides.{sym, rel, img};
+ghost use Rattle.component_store.specs.Sets.{IsSet, HoldsSet};
+ghost use Rattle.install_journal.specs.Steps.{parts};
+ghost use Rattle.install_journal.specs.Standing.{HasManifests};
+ghost use Rattle.symbol_merge.specs.Stored.{set_in, IsPlanOf};
+ghost use Rattle.reloc_table.specs.List.{relocs_of};
+ghost use Rattle.component_package.specs.mote.Machine.{range_number};
+ghost use Rattle.mote_core.specs.Serving.{is_late_cause};
+ghost use Rattle.mote_core.specs.Frames.{link_frame, LeavesRead, DoesRead};
+ghost use Rattle.mote_core.specs.Links.{Counts, Flags, Links, site_answer, IsStagedFor, IsLinking, IsEarlyFree, Refuses, Goes, LeavesLink};
+
+use avr_reloc::RangeFault;
+use component_package::{Answer, Entry, Header};
+use component_store::{SetFault, StoredSet, open_set};
+use flash_pages::{Board, Failed};
+use image_stage::stage;
+use install_journal::{Stage, Standing, mark};
+use layout_plan::{Plan, PlanFault};
+use reloc_table::{BuildFault, build, check_relocs, count_relocs};
+use symbol_merge::{MergeFault, count_symbols, merge, plan_of_set};
+
+// Merges the symbols of the set, unless that was done. It answers the cause that it finds.
+fn make_symbols<B: Board>(
+    board: &mut B,
+    is_made: bool,
+    set: &StoredSet,
+    plan: &Plan,
+) -> Result<Option<Answer>, Failed>
+    requires set { IsSet set.now }
+    requires plan { IsPlanOf set.now plan.now }
+    ensures goes { IfOk result (λ a. Told (B.view board.old) (λ s. (t : Mote) → IsLinking t set.now s → IsEarlyFree set.now s → is_made ≡ (parts s).gates sym →
+        Goes t set.now true ((parts s).gates rel) a s (B.view board.new))) }
+    ensures leaves { LeavesLink set.now (λ s. IsEarlyFree set.now s × (is_made ≡ (parts s).gates sym)) 33 (B.view board.old) (B.view board.new) }
+    ensures uses { UsesFlash (B.view board.old) (B.view board.new) }
+    ensures faults { FlashFaults result (B.view board.old) (B.view board.new) }
+{
+    if is_made {
+        return Ok(None);
+    }
+    match merge(board, set, plan) {
+        Ok(_) => {}
+        Err(MergeFault::Duplicate(symbol, first, second)) => {
+            return Ok(Some(Answer::Duplicate(symbol, first, second)));
+        }
+        Err(MergeFault::Symbols(count)) => return Ok(Some(Answer::Symbols(count))),
+        Err(MergeFault::Fault) => return Err(Failed),
+    }
+    mark(board, Stage::Symbols)?;
+    Ok(None)
+}
+
+// The number of a range fault, as the line `range` says it.
+fn range_number(fault: RangeFault) -> u8
+    ensures { result ≡ range_number fault }
+{
+    match fault {
+        RangeFault::Odd => 1,
+        RangeFault::TooFar(_) => 2,
+    }
+}
+
+// The line of a cause that a relocation has, if the fault is one.
+fn site_answer(fault: BuildFault) -> Option<Answer>
+    ensures { result ≡ site_answer fault }
+{
+    match fault {
+        BuildFault::Undefined(k, r, symbol) => Some(Answer::Undefined(k, r, symbol)),
+        BuildFault::Range(k, r, fault) => Some(Answer::Range(k, r, range_number(fault))),
+        BuildFault::Relocations(_) | BuildFault::Fault => None,
+    }
+}
+
+// Lists the relocations of the set, unless that was done. It answers the cause that it finds.
+fn make_relocs<B: Board>(
+    board: &mut B,
+    is_made: bool,
+    set: &StoredSet,
+    plan: &Plan,
+) -> Result<Option<Answer>, Failed>
+    requires set { IsSet set.now }
+    requires plan { IsPlanOf set.now plan.now }
+    requires few { relocs_of set.now ≤ 8192 }
+    ensures goes { IfOk result (λ a. Told (B.view board.old) (λ s. (t : Mote) → IsLinking t set.now s → (parts s).gates sym ≡ true → is_made ≡ (parts s).gates rel →
+        Goes t set.now true true a s (B.view board.new))) }
+    ensures leaves { LeavesLink set.now (λ s. ((parts s).gates sym ≡ true) × (is_made ≡ (parts s).gates rel)) 257 (B.view board.old) (B.view board.new) }
+    ensures uses { UsesFlash (B.view board.old) (B.view board.new) }
+    ensures faults { FlashFaults result (B.view board.old) (B.view board.new) }
+{
+    if is_made {
+        return Ok(None);
+    }
+    match check_relocs(board, set, plan) {
+        Ok(()) => {}
+        Err(fault) => {
+            let answer = site_answer(fault);
+            if answer.is_none() {
+                return Err(Failed);
+            }
+            return Ok(answer);
+        }
+    }
+    build(board, set, plan)?;
+    mark(board, Stage::Relocs)?;
+    Ok(None)
+}
+
+// Stages the image of the set.
+fn make_image<B: Board>(board: &mut B, set: &StoredSet, plan: &Plan) -> Result<(), Failed>
+    requires set { IsSet set.now }
+    requires plan { IsPlanOf set.now plan.now }
+    ensures done { OnOk result (Told (B.view board.old) (λ s. (t : Mote) → IsLinking t set.now s → (parts s).gates rel ≡ true → (parts s).gates img ≡ false →
+        IsStagedFor t set.now s (B.view board.new))) }
+    ensures leaves { LeavesLink set.now (λ s. ((parts s).gates rel ≡ true) × ((parts s).gates img ≡ false)) 481 (B.view board.old) (B.view board.new) }
+    ensures uses { UsesFlash (B.view board.old) (B.view board.new) }
+    ensures faults { FlashFaults result (B.view board.old) (B.view board.new) }
+{
+    stage(board, set, plan)?;
+    mark(board, Stage::Image)?;
+    Ok(())
+}
+
+// Contracts learn by it how long the lists of a set are.
+fn room(entries: &[Entry; 16], slots: &[u8; 16], headers: &[Header; 16]) -> usize
+    ensures entries { length entries.now ≡ 16 }
+    ensures slots { length slots.now ≡ 16 }
+    ensures headers { length headers.now ≡ 16 }
+{
+    entries.len().min(slots.len()).min(headers.len())
+}
+
+// The plan of a set, or the line of the cause that it has none.
+fn plan_set(set: &StoredSet) -> Result<Plan, Answer>
+    requires { IsSet set.now }
+    ensures plan { IfOk result (IsPlanOf set.now) }
+    ensures room { IfOk result (λ plan. (s : State) → HoldsSet s set.now → room_cause (rooms_of (set_in s set.now)) ≡ None) }
+    ensures refuses { IfErr result (λ a. (s : State) → HoldsSet s set.now → Refuses set.now s a) }
+    ensures early { IfErr result (λ a. is_late_cause a ≡ false) }
+{
+    let _ = room(&set.slots.manifest.entries, &set.slots.slots, &set.headers);
+    match plan_of_set(set) {
+        Ok(plan) => Ok(plan),
+        Err(PlanFault::Flash(total)) => Err(Answer::Flash(total)),
+        Err(PlanFault::Ram(total)) => Err(Answer::Ram(total)),
+    }
+}
+
+// The line of the cause that a set that has room exports or relocates too much, if it does.
+fn count_set<B: Board>(board: &mut B, set: &StoredSet) -> Result<Option<Answer>, Failed>
+    requires { IsSet set.now }
+    ensures counts { IfOk result (λ a. Told (B.view board.old) (λ s. HoldsSet s set.now → room_cause (rooms_of (set_in s set.now)) ≡ None → Counts a set.now s)) }
+    ensures few { IfOk result (λ a. a ≡ None → relocs_of set.now ≤ 8192) }
+    ensures reads { Reads (B.view board.old) (B.view board.new) }
+    ensures faults { FlashFaults result (B.view board.old) (B.view board.new) }
+{
+    match count_symbols(board, set) {
+        Ok(_) => {}
+        Err(MergeFault::Symbols(count)) => return Ok(Some(Answer::Symbols(count))),
+        Err(MergeFault::Duplicate(_, _, _)) => return Err(Failed),
+        Err(MergeFault::Fault) => return Err(Failed),
+    }
+    match count_relocs(set) {
+        Ok(_) => Ok(None),
+        Err(BuildFault::Relocations(count)) => Ok(Some(Answer::Relocations(count))),
+        Err(BuildFault::Undefined(_, _, _)) => Err(Failed),
+        Err(BuildFault::Range(_, _, _)) => Err(Failed),
+        Err(BuildFault::Fault) => Err(Failed),
+    }
+}
+
+// Merges the symbols of the set and lists its relocations, each unless that was done. It answers the cause that it finds.
+fn make_areas<B: Board>(
+    board: &mut B,
+    standing: &Standing,
+    set: &StoredSet,
+    plan: &Plan,
+) -> Result<Option<Answer>, Failed>
+    requires set { IsSet set.now }
+    requires plan { IsPlanOf set.now plan.now }
+    requires few { relocs_of set.now ≤ 8192 }
+    ensures goes { IfOk result (λ a. Told (B.view board.old) (λ s. (t : Mote) → IsLinking t set.now s → IsEarlyFree set.now s → Flags standing.now.symbols standing.now.relocs s →
+        Goes t set.now true true a s (B.view board.new))) }
+    ensures leaves { LeavesLink set.now (λ s. IsEarlyFree set.now s × Flags standing.now.symbols standing.now.relocs s) 290 (B.view board.old) (B.view board.new) }
+    ensures uses { UsesFlash (B.view board.old) (B.view board.new) }
+    ensures faults { FlashFaults result (B.view board.old) (B.view board.new) }
+{
+    match make_symbols(board, standing.symbols, set, plan) {
+        Ok(None) => {}
+        Ok(Some(answer)) => return Ok(Some(answer)),
+        Err(_) => return Err(Failed),
+    }
+    match make_relocs(board, standing.relocs, set, plan) {
+        Ok(answer) => Ok(answer),
+        Err(_) => Err(Failed),
+    }
+}
+
+// Links the set, from where it was left.
+fn link_set<B: Board>(board: &mut B, standing: &Standing, set: &StoredSet) -> Result<Answer, Failed>
+    requires { IsSet set.now }
+    ensures links { IfOk result (λ a. Told (B.view board.old) (λ s. (t : Mote) → IsLinking t set.now s → Flags standing.now.symbols standing.now.relocs s →
+        Links t set.now a s (B.view board.new))) }
+    ensures leaves { LeavesLink set.now (λ s. Flags standing.now.symbols standing.now.relocs s) 771 (B.view board.old) (B.view board.new) }
+    ensures uses { UsesFlash (B.view board.old) (B.view board.new) }
+    ensures faults { FlashFaults result (B.view board.old) (B.view board.new) }
+{
+    let plan = match plan_set(set) {
+        Ok(plan) => plan,
+        Err(answer) => return Ok(answer),
+    };
+    match count_set(board, set) {
+        Ok(None) => {}
+        Ok(Some(answer)) => return Ok(answer),
+        Err(_) => return Err(Failed),
+    }
+    match make_areas(board, standing, set, &plan) {
+        Ok(None) => {}
+        Ok(Some(answer)) => return Ok(answer),
+        Err(_) => return Err(Failed),
+    }
+    match make_image(board, set, &plan) {
+        Ok(()) => Ok(Answer::Linked(set.slots.manifest.release)),
+        Err(_) => Err(Failed),
+    }
+}
+
+/// Links what comes in, if it is whole: merges its symbols, lists its relocations and stages its image, each unless that was done.
+pub(crate) fn serve_link<B: Board>(board: &mut B, standing: &Standing) -> Result<Answer, Failed>
+    requires { HasManifests standing.now }
+    ensures works { LeavesRead standing.now link_frame (B.view board.old) (B.view board.new) }
+    ensures does { IfOk result (λ a. DoesRead standing.now link_frame (B.view board.old) (B.view board.new) a) }
+    ensures uses { UsesFlash (B.view board.old) (B.view board.new) }
+    ensures faults { FlashFaults result (B.view board.old) (B.view board.new) }
+{
+    if standing.pending {
+        return Ok(Answer::Reboot(standing.current.manifest.release));
+    }
+    let Some(incoming) = &standing.incoming else {
+        return Ok(Answer::NoManifest);
+    };
+    if standing.image {
+        return Ok(Answer::Linked(incoming.manifest.release));
+    }
+    let set = match open_set(board, incoming) {
+        Ok(set) => set,
+        Err(SetFault::Missing(k)) => return Ok(Answer::Missing(k)),
+        Err(SetFault::BadPackage(k, fault)) => return Ok(Answer::BadPackage(k, fault)),
+        Err(SetFault::Fault) => return Err(Failed),
+    };
+    match link_set(board, standing, &set) {
+        Ok(answer) => Ok(answer),
+        Err(_) => Err(Failed),
+    }
+}

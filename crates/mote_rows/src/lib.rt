@@ -1,0 +1,17 @@
+//! Worked rows of the whole mote: tables of sessions over boards in memory, power cuts and failing calls among them.
+//!
+//! The crate has nothing but tests, which cross all crates of the mote. What they expect is written down by hand.
+#![tactic(auto)]
+
+#[cfg(test)]
+mod cuts;
+#[cfg(test)]
+mod failures;
+#[cfg(test)]
+mod frames;
+#[cfg(test)]
+mod links;
+#[cfg(test)]
+mod sessions;
+#[cfg(test)]
+mod worked;
