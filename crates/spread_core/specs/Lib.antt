@@ -1,0 +1,7 @@
+pub mod Sets
+pub mod Hearing
+pub mod MessageFrames
+pub mod Causes
+pub mod Tails
+pub mod World
+pub mod Laws
