@@ -1,14 +1,15 @@
-//! Prints what the reader sees of an object: `show_object PATH`, or the object from standard input.
+//! `object`: what the reader sees of an object.
 //!
 //! A line for each section, symbol and relocation, or one line with the first fault. The status is 0
 //! where the object was read, 1 where it has a fault, and 2 where it is longer than objects are.
-#![tactic(auto)]
 
+use crate::input::read_input;
+use anyhow::Result;
 use avr_elf::constants::MAX_FILE;
 use avr_elf::{ElfFault, ObjectView, read_object};
 use std::alloc::{AllocError, Global};
+use std::io;
 use std::process::ExitCode;
-use std::{env, fs, io};
 
 /// A name, with each byte that isn't a visible ASCII character as two hexadecimal digits.
 fn text(alloc: Global, name: &[u8]) -> Result<String, AllocError> {
@@ -88,17 +89,11 @@ fn print_object<W: io::Write>(
     print_relocations(out, object)
 }
 
-fn show(rt: &HostRuntime) -> io::Result<ExitCode> {
-    let file = match env::args(rt)?.nth(1) {
-        Some(path) => fs::read(rt, path.as_str())?,
-        None => {
-            let mut bytes = Vec::new(rt.alloc());
-            io::Read::read_to_end(&mut rt.stdin(), &mut bytes)?;
-            bytes
-        }
-    };
+/// Prints an object, or its fault.
+pub(crate) fn show(rt: &HostRuntime, path: Option<&str>) -> Result<ExitCode> {
+    let file = read_input(rt, path)?;
     if file.len() > MAX_FILE {
-        eprintln!(rt; "show_object: an object has at most {MAX_FILE} bytes")?;
+        eprintln!(rt; "flexcup_tool: an object has at most {MAX_FILE} bytes")?;
         return Ok(ExitCode::from(2));
     }
     let mut out = io::BufWriter::new(rt.alloc(), rt.stdout())?;
@@ -114,8 +109,4 @@ fn show(rt: &HostRuntime) -> io::Result<ExitCode> {
     };
     io::Write::flush(&mut out)?;
     Ok(status)
-}
-
-fn main(rt: HostRuntime) -> io::Result<ExitCode> {
-    show(&rt)
 }

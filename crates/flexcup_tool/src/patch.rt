@@ -1,10 +1,9 @@
-//! Shows what a relocation makes of a field.
+//! `patch`: what a relocation makes of a field.
 //!
 //! Each line of standard input is `TYPE S_PLUS_A PLACE BYTES`: the type's number, S+A and the
 //! field's address in decimal, and the bytes that the field has now in hex. For each, a line has
 //! the patched bytes in hex, or `odd`, or `too far N`. Another line ends the program with a message
 //! on standard error and status 1.
-#![tactic(auto)]
 
 ghost use Rattle.std.specs.Prelude.{◌↔◌, IsTrue, IfOk};
 ghost use Rattle.avr_reloc.specs.Field.{IsNear};
@@ -12,6 +11,7 @@ ghost use Rattle.avr_reloc.specs.Field.{IsNear};
 use anyhow::{Context, Result, bail, ensure};
 use avr_reloc::{RangeFault, RelocType, patch_of};
 use std::alloc::Global;
+use std::process::ExitCode;
 
 /// Whether a patch may be asked for with this number.
 fn is_near(v: i64) -> bool
@@ -74,10 +74,11 @@ fn answer(alloc: Global, line: &str) -> Result<String> {
     shown(alloc, kind, s_plus_a, place, &mut field)
 }
 
-fn main(rt: HostRuntime) -> Result<()> {
+/// Answers each line of standard input.
+pub(crate) fn show_lines(rt: &HostRuntime) -> Result<ExitCode> {
     for line in rt.lines(rt.alloc()) {
         let answer = answer(rt.alloc(), line?.as_str())?;
         println!(rt; "{answer}")?;
     }
-    Ok(())
+    Ok(ExitCode::SUCCESS)
 }
