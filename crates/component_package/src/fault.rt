@@ -2,6 +2,9 @@
 
 ghost use Rattle.std.specs.Prelude.{◌≡◌};
 
+use std::error::Error;
+use std::fmt;
+
 /// The first fault of a package, in the order in which they are looked for: header, exports, relocations. The numbers held are
 /// indexes of exports or relocations, from 0.
 #[derive(Clone, Copy, Debug, PartialEq, Eq)]
@@ -55,3 +58,25 @@ impl PackageFault {
         }
     }
 }
+
+/// What is wrong, in words, with the export or relocation that has it.
+impl fmt::Display for PackageFault {
+    fn fmt<W: fmt::Write>(&self, f: &mut fmt::Formatter<W>) -> fmt::Result {
+        match self {
+            PackageFault::Short => write!(f, "there are fewer than 32 bytes"),
+            PackageFault::Magic => write!(f, "the first four bytes are not FCP1"),
+            PackageFault::Reserved => write!(f, "a reserved byte of the header is not zero"),
+            PackageFault::Parity => write!(f, "the length of code, data or bss is odd"),
+            PackageFault::Length => write!(f, "the length is not the header's, or is too great"),
+            PackageFault::ExportOrder(i) => write!(f, "export {i} is out of order"),
+            PackageFault::ExportPlace(i) => write!(f, "export {i} has a bad place"),
+            PackageFault::RelocOrder(i) => write!(f, "relocation {i} is out of order"),
+            PackageFault::RelocPlace(i) => write!(f, "relocation {i} has a bad place"),
+            PackageFault::RelocKind(i) => write!(f, "relocation {i} has a bad type"),
+            PackageFault::Target(i) => write!(f, "relocation {i} has a bad target"),
+            PackageFault::FieldNotZero(i) => write!(f, "the field of relocation {i} is not zero"),
+        }
+    }
+}
+
+impl Error for PackageFault {}

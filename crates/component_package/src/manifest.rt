@@ -12,6 +12,8 @@ ghost use Rattle.component_package.specs.packages.Reading.{first_fault, list_of}
 
 use crate::header::u16_in;
 use crate::limits::PACKAGE_BYTES;
+use std::error::Error;
+use std::fmt;
 
 /// One component of a release.
 #[derive(Clone, Copy, Debug, PartialEq, Eq)]
@@ -74,6 +76,20 @@ impl ManifestFault {
         }
     }
 }
+
+/// What is wrong, in words, with the number at fault.
+impl fmt::Display for ManifestFault {
+    fn fmt<W: fmt::Write>(&self, f: &mut fmt::Formatter<W>) -> fmt::Result {
+        match self {
+            ManifestFault::Short(count) => write!(f, "{count} bytes are not a manifest's length"),
+            ManifestFault::Count(count) => write!(f, "there are {count} components, not 1 to 16"),
+            ManifestFault::Repeated(component) => write!(f, "component {component} stands twice"),
+            ManifestFault::Length(count) => write!(f, "{count} bytes are not a package's length"),
+        }
+    }
+}
+
+impl Error for ManifestFault {}
 
 const NO_ENTRY: Entry = Entry {
     component: 0,
