@@ -3,6 +3,7 @@
 ghost use Rattle.std.specs.Prelude.{◌≡◌};
 ghost use Rattle.avr_elf.specs.FaultNumber.{number_of, offset_of};
 
+use std::error::Error;
 use std::fmt;
 
 /// The first fault of an object. The first number is the offset in the file of what is at fault, in
@@ -87,3 +88,5 @@ impl fmt::Display for ElfFault {
         }
     }
 }
+
+impl Error for ElfFault {}

@@ -6,9 +6,20 @@ ghost use Rattle.std.specs.Prelude.{◌≡◌, ◌<◌, ℕ, List, length, Some,
 ghost use Rattle.flash_pages.specs.State.{State, Place, Prog, Ext, page_at, SendsPart, always};
 ghost use Rattle.flash_pages.specs.Board.{View, Told, Reads, IsProgrammed, Programs, UsesLine, Receives, Sends, FlashFaults, LineFaults};
 
+use std::error::Error;
+use std::fmt;
+
 /// A call on an outside object failed, and that object's count of faults rose.
 #[derive(Clone, Copy, Debug, PartialEq, Eq)]
 pub struct Failed;
+
+impl fmt::Display for Failed {
+    fn fmt<W: fmt::Write>(&self, f: &mut fmt::Formatter<W>) -> fmt::Result {
+        write!(f, "a call of the board failed")
+    }
+}
+
+impl Error for Failed {}
 
 /// The outside of a mote: 480 pages of program flash, 2,048 pages of external flash, and a line. A page has 256 bytes.
 ///

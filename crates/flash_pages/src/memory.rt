@@ -10,10 +10,20 @@ use crate::log::{Change, ChangeLog};
 use crate::plan::{fails, is_next, written};
 use crate::{Board, Failed, raised};
 use std::alloc::{AllocError, Global};
+use std::error::Error;
+use std::fmt;
 
 /// There is no memory left.
 #[derive(Clone, Copy, Debug, PartialEq, Eq)]
 pub struct NoMemory;
+
+impl fmt::Display for NoMemory {
+    fn fmt<W: fmt::Write>(&self, f: &mut fmt::Formatter<W>) -> fmt::Result {
+        write!(f, "there is no memory")
+    }
+}
+
+impl Error for NoMemory {}
 
 impl From<AllocError> for NoMemory {
     fn from(_error: AllocError) -> NoMemory {

@@ -2,6 +2,9 @@
 
 ghost use Rattle.std.specs.Prelude.{◌≡◌};
 
+use std::error::Error;
+use std::fmt;
+
 /// The lengths of a component's parts in bytes.
 #[derive(Clone, Copy, Debug, PartialEq, Eq)]
 pub struct Sizes {
@@ -43,6 +46,18 @@ pub enum PlanFault {
     /// Data and bss together have this many bytes, which is above 3,584.
     Ram(u32),
 }
+
+/// The cause in words, with the total.
+impl fmt::Display for PlanFault {
+    fn fmt<W: fmt::Write>(&self, f: &mut fmt::Formatter<W>) -> fmt::Result {
+        match self {
+            PlanFault::Flash(total) => write!(f, "code and data have {total} bytes"),
+            PlanFault::Ram(total) => write!(f, "data and bss have {total} bytes"),
+        }
+    }
+}
+
+impl Error for PlanFault {}
 
 /// A part of a component.
 #[derive(Clone, Copy, Debug, PartialEq, Eq)]
