@@ -1,5 +1,5 @@
 -- Exports of a component that the board holds, one after the other.
-use Rattle.std.proofs.Common.{◌≡◌, ℕ, zero, suc, ◌+◌, ◌-◌, ◌<◌, List, [], ◌∷◌, ◌++◌, length, take, drop, Some, None, Ok, refl, sym, ap, ap₂, subst, ◌∙◌, arith, get_or, slice_range}
+use Rattle.std.proofs.Common.{◌≡◌, ℕ, zero, suc, ◌+◌, ◌-◌, ◌<◌, List, [], ◌∷◌, ◌++◌, length, take, drop, Some, None, Ok, sym, ap, ap₂, subst, ◌∙◌, arith, get_or, slice_range}
 use Rattle.std.specs.Prelude.{slice_get}
 use Rattle.flash_pages.specs.State.{State}
 use Rattle.component_package.specs.declared.part.Export.{Export}

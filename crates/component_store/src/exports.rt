@@ -2,7 +2,7 @@
 
 ghost use Rattle.std.specs.Prelude.{◌≡◌, ◌≤◌, ◌<◌, ◌+◌, OnErr, OnOk, Some, length, slice_range};
 ghost use Rattle.flash_pages.specs.State.{State};
-ghost use Rattle.flash_pages.specs.Board.{View, Reads, Rose};
+ghost use Rattle.flash_pages.specs.Board.{View, Told, Reads, FlashFaults};
 ghost use Rattle.component_package.specs.packages.Component.{Component};
 ghost use Rattle.component_store.specs.Sets.{IsSet, HoldsSet, IsComponentOf, header_at};
 
@@ -24,12 +24,14 @@ pub fn exports_at<B: Board>(
     requires set { IsSet set.now }
     requires component { k < set.now.slots.manifest.count }
     requires within { i + length into.old ≤ (header_at set.now k).exports }
-    ensures exports { OnOk result ((s : State) → (B.view board.old).state ≡ Some s → HoldsSet s set.now → (c : Component) → IsComponentOf s set.now k c → into.new ≡ slice_range c.exports i (i + length into.old)) }
+    ensures answer { OnOk result (Told (B.view board.old) (λ s. HoldsSet s set.now →
+        (c : Component) → IsComponentOf s set.now k c → into.new ≡
+        slice_range c.exports i (i + length into.old))) }
     // The component has as many exports as its header says.
-    ensures count { (s : State) → (B.view board.old).state ≡ Some s → HoldsSet s set.now → (c : Component) → IsComponentOf s set.now k c → length c.exports ≡ (header_at set.now k).exports }
+    ensures count { Told (B.view board.old) (λ s. HoldsSet s set.now → (c : Component) →
+        IsComponentOf s set.now k c → length c.exports ≡ (header_at set.now k).exports) }
     ensures reads { Reads (B.view board.old) (B.view board.new) }
-    ensures no_fault { OnOk result ((B.view board.new).flash_faults ≡ (B.view board.old).flash_faults) }
-    ensures failed { OnErr result (Rose (B.view board.old).flash_faults (B.view board.new).flash_faults) }
+    ensures faults { FlashFaults result (B.view board.old) (B.view board.new) }
 {
     let h = set.headers[k as usize];
     let mut table = reader_of(set, k);

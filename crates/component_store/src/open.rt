@@ -2,7 +2,7 @@
 
 ghost use Rattle.std.specs.Prelude.{◌≡◌, ◌≤◌, ◌<◌, true, false, IfOk, IfErr, Some, None, length, slice_get};
 ghost use Rattle.flash_pages.specs.State.{State};
-ghost use Rattle.flash_pages.specs.Board.{View, Reads, Rose};
+ghost use Rattle.flash_pages.specs.Board.{View, Told, Reads, FlashFaultsWhere};
 ghost use Rattle.component_package.specs.packages.Reading.{first_fault};
 ghost use Rattle.component_package.specs.packages.Manifest.{IsSlotManifest, stored_of};
 ghost use Rattle.component_package.specs.mote.Store.{slots_of, set_fault, missing_at, bad_package_at};
@@ -27,11 +27,11 @@ const NO_HEADER: Header = Header {
 // The first entry whose slot hasn't its digest.
 fn check_digests<B: Board>(board: &mut B, m: &SlotManifest) -> Result<(), SetFault>
     requires { IsSlotManifest m.now }
-    ensures answer { is_set_fault result ≡ false → (s : State) → (B.view board.old).state ≡ Some s →
-        SetFaultIs result (first_fault (missing_at (slots_of s.ext) (stored_of m.now)) m.now.manifest.count) }
+    ensures answer { is_set_fault result ≡ false → Told (B.view board.old) (λ s. SetFaultIs result
+        (first_fault (missing_at (slots_of s.ext) (stored_of m.now)) m.now.manifest.count)) }
     ensures reads { Reads (B.view board.old) (B.view board.new) }
-    ensures no_fault { is_set_fault result ≡ false → (B.view board.new).flash_faults ≡ (B.view board.old).flash_faults }
-    ensures failed { is_set_fault result ≡ true → Rose (B.view board.old).flash_faults (B.view board.new).flash_faults }
+    ensures faults { FlashFaultsWhere (is_set_fault result) (B.view board.old)
+        (B.view board.new) }
 {
     for k in 0..m.manifest.count {
         let entry = &m.manifest.entries[k as usize];
@@ -59,13 +59,15 @@ fn number(fault: StoreFault) -> Option<u8>
 // The headers of the packages, or the first entry whose package is bad.
 fn check_packages<B: Board>(board: &mut B, m: &SlotManifest) -> Result<[Header; 16], SetFault>
     requires { IsSlotManifest m.now }
-    ensures answer { is_set_fault result ≡ false → (s : State) → (B.view board.old).state ≡ Some s →
-        SetFaultIs result (first_fault (bad_package_at (slots_of s.ext) (stored_of m.now)) m.now.manifest.count) }
-    ensures headers { IfOk result (λ headers. (s : State) → (B.view board.old).state ≡ Some s → HasHeaders (slots_of s.ext) (stored_of m.now) m.now.manifest.count headers) }
-    ensures fits { IfOk result (λ headers. AreHeaders m.now.manifest m.now.manifest.count headers) }
+    ensures answer { is_set_fault result ≡ false → Told (B.view board.old) (λ s. SetFaultIs result
+        (first_fault (bad_package_at (slots_of s.ext) (stored_of m.now)) m.now.manifest.count)) }
+    ensures headers { IfOk result (λ headers. Told (B.view board.old) (λ s.
+        HasHeaders (slots_of s.ext) (stored_of m.now) m.now.manifest.count headers)) }
+    ensures fits { IfOk result (λ headers.
+        AreHeaders m.now.manifest m.now.manifest.count headers) }
     ensures reads { Reads (B.view board.old) (B.view board.new) }
-    ensures no_fault { is_set_fault result ≡ false → (B.view board.new).flash_faults ≡ (B.view board.old).flash_faults }
-    ensures failed { is_set_fault result ≡ true → Rose (B.view board.old).flash_faults (B.view board.new).flash_faults }
+    ensures faults { FlashFaultsWhere (is_set_fault result) (B.view board.old)
+        (B.view board.new) }
 {
     let mut headers = [NO_HEADER; 16];
     for k in 0..m.manifest.count {
@@ -86,14 +88,15 @@ fn check_packages<B: Board>(board: &mut B, m: &SlotManifest) -> Result<[Header; 
 /// `Fault` comes only where flash faults rose. Each page of the set is read four times at most.
 pub fn open_set<B: Board>(board: &mut B, m: &SlotManifest) -> Result<StoredSet, SetFault>
     requires { IsSlotManifest m.now }
-    ensures answer { is_set_fault result ≡ false → (s : State) → (B.view board.old).state ≡ Some s → SetFaultIs result (set_fault (slots_of s.ext) (stored_of m.now)) }
+    ensures answer { is_set_fault result ≡ false → Told (B.view board.old) (λ s.
+        SetFaultIs result (set_fault (slots_of s.ext) (stored_of m.now))) }
     ensures slots { IfOk result (λ set. set.slots ≡ m.now) }
     // On every board it meets the conditions of the calls that take a set.
     ensures set { IfOk result IsSet }
-    ensures holds { IfOk result (λ set. (s : State) → (B.view board.old).state ≡ Some s → HoldsSet s set) }
+    ensures holds { IfOk result (λ set. Told (B.view board.old) (λ s. HoldsSet s set)) }
     ensures reads { Reads (B.view board.old) (B.view board.new) }
-    ensures no_fault { is_set_fault result ≡ false → (B.view board.new).flash_faults ≡ (B.view board.old).flash_faults }
-    ensures failed { is_set_fault result ≡ true → Rose (B.view board.old).flash_faults (B.view board.new).flash_faults }
+    ensures faults { FlashFaultsWhere (is_set_fault result) (B.view board.old)
+        (B.view board.new) }
 {
     match check_digests(board, m) {
         Ok(()) => {}

@@ -4,7 +4,7 @@ ghost use Rattle.std.specs.Prelude.{◌≡◌, ◌↔◌, ◌≤◌, ◌<◌, �
 ghost use Rattle.std.specs.Option.{option_map};
 ghost use Rattle.sha2.specs.Sha256.{sha256};
 ghost use Rattle.flash_pages.specs.State.{State};
-ghost use Rattle.flash_pages.specs.Board.{View, Reads, Rose};
+ghost use Rattle.flash_pages.specs.Board.{View, Told, Reads, FlashFaults, FlashFaultsWhere};
 ghost use Rattle.component_package.specs.packages.Reading.{header_of, header_fault, exports_fault, relocs_fault, has_even_lengths, total_of};
 ghost use Rattle.component_store.specs.declared.set.StoreFault.TheVariants.{Package};
 ghost use Rattle.component_store.specs.Pieces.{is_fault};
@@ -29,10 +29,10 @@ pub fn check<B: Board>(
     requires slot { slot < 32 }
     requires least { 32 ≤ size }
     requires most { size ≤ 9984 }
-    ensures answer { IfOk result (λ b. (s : State) → (B.view board.old).state ≡ Some s → IsTrue b ↔ (sha256 (held_bytes s slot size) ≡ digest.now)) }
+    ensures answer { IfOk result (λ b. Told (B.view board.old) (λ s. IsTrue b ↔
+        (sha256 (held_bytes s slot size) ≡ digest.now))) }
     ensures reads { Reads (B.view board.old) (B.view board.new) }
-    ensures no_fault { OnOk result ((B.view board.new).flash_faults ≡ (B.view board.old).flash_faults) }
-    ensures failed { OnErr result (Rose (B.view board.old).flash_faults (B.view board.new).flash_faults) }
+    ensures faults { FlashFaults result (B.view board.old) (B.view board.new) }
 {
     let mut hasher = Sha256::new();
     let mut page = [0; 256];
@@ -58,17 +58,19 @@ fn stored_header<B: Board>(
     requires slot { table.old.slot < 32 }
     requires least { 32 ≤ size }
     requires most { size ≤ 9984 }
-    ensures answer { is_fault result ≡ false → (s : State) → (B.view board.old).state ≡ Some s → Keeps s table.old →
-        FaultIs result (option_map Package (header_fault (held_bytes s table.old.slot 32) size)) }
-    ensures header { IfOk result (λ h. (s : State) → (B.view board.old).state ≡ Some s → Keeps s table.old → h ≡ header_of (held_bytes s table.old.slot 32)) }
+    ensures answer { is_fault result ≡ false → Told (B.view board.old) (λ s. Keeps s table.old →
+        FaultIs result
+        (option_map Package (header_fault (held_bytes s table.old.slot 32) size))) }
+    ensures header { IfOk result (λ h. Told (B.view board.old) (λ s. Keeps s table.old → h ≡
+        header_of (held_bytes s table.old.slot 32))) }
     ensures even { IfOk result (λ h. IsTrue (has_even_lengths h)) }
     ensures total { IfOk result (λ h. total_of h ≡ size) }
-    ensures keeps { OnOk result ((s : State) → (B.view board.old).state ≡ Some s → Keeps s table.old → Keeps s table.new) }
+    ensures keeps { OnOk result (Told (B.view board.old) (λ s. Keeps s table.old →
+        Keeps s table.new)) }
     ensures slot { table.new.slot ≡ table.old.slot }
     ensures kinds { IfErr result (λ f. is_of_package f ≡ true) }
     ensures reads { Reads (B.view board.old) (B.view board.new) }
-    ensures no_fault { is_fault result ≡ false → (B.view board.new).flash_faults ≡ (B.view board.old).flash_faults }
-    ensures failed { is_fault result ≡ true → Rose (B.view board.old).flash_faults (B.view board.new).flash_faults }
+    ensures faults { FlashFaultsWhere (is_fault result) (B.view board.old) (B.view board.new) }
 {
     let mut raw = [0; 32];
     let Ok(()) = table.read(board, 0, &mut raw) else {
@@ -88,14 +90,15 @@ fn check_exports<B: Board>(
 ) -> Result<(), StoreFault>
     requires slot { table.old.slot < 32 }
     requires whole { total_of h.now ≤ 9984 }
-    ensures answer { is_fault result ≡ false → (s : State) → (B.view board.old).state ≡ Some s → IsUnder s table.old h.now →
-        FaultIs result (option_map Package (exports_fault (held_package s table.old.slot h.now))) }
-    ensures keeps { OnOk result ((s : State) → (B.view board.old).state ≡ Some s → IsUnder s table.old h.now → IsUnder s table.new h.now) }
+    ensures answer { is_fault result ≡ false → Told (B.view board.old) (λ s.
+        IsUnder s table.old h.now → FaultIs result
+        (option_map Package (exports_fault (held_package s table.old.slot h.now)))) }
+    ensures keeps { OnOk result (Told (B.view board.old) (λ s. IsUnder s table.old h.now →
+        IsUnder s table.new h.now)) }
     ensures slot { table.new.slot ≡ table.old.slot }
     ensures kinds { IfErr result (λ f. is_of_package f ≡ true) }
     ensures reads { Reads (B.view board.old) (B.view board.new) }
-    ensures no_fault { is_fault result ≡ false → (B.view board.new).flash_faults ≡ (B.view board.old).flash_faults }
-    ensures failed { is_fault result ≡ true → Rose (B.view board.old).flash_faults (B.view board.new).flash_faults }
+    ensures faults { FlashFaultsWhere (is_fault result) (B.view board.old) (B.view board.new) }
 {
     let mut before = None;
     for i in 0..h.exports {
@@ -118,12 +121,12 @@ fn check_relocs<B: Board>(
 ) -> Result<(), StoreFault>
     requires slot { table.old.slot < 32 }
     requires whole { total_of h.now ≤ 9984 }
-    ensures answer { is_fault result ≡ false → (s : State) → (B.view board.old).state ≡ Some s → IsUnder s table.old h.now →
-        FaultIs result (option_map Package (relocs_fault (held_package s table.old.slot h.now))) }
+    ensures answer { is_fault result ≡ false → Told (B.view board.old) (λ s.
+        IsUnder s table.old h.now → FaultIs result
+        (option_map Package (relocs_fault (held_package s table.old.slot h.now)))) }
     ensures kinds { IfErr result (λ f. is_of_package f ≡ true) }
     ensures reads { Reads (B.view board.old) (B.view board.new) }
-    ensures no_fault { is_fault result ≡ false → (B.view board.new).flash_faults ≡ (B.view board.old).flash_faults }
-    ensures failed { is_fault result ≡ true → Rose (B.view board.old).flash_faults (B.view board.new).flash_faults }
+    ensures faults { FlashFaultsWhere (is_fault result) (B.view board.old) (B.view board.new) }
 {
     // The fields rise too, so they have a reader of their own.
     let mut fields = SlotReader::new(table.slot);
@@ -158,12 +161,12 @@ fn check_records<B: Board>(
 ) -> Result<(), StoreFault>
     requires slot { table.old.slot < 32 }
     requires whole { total_of h.now ≤ 9984 }
-    ensures answer { is_fault result ≡ false → (s : State) → (B.view board.old).state ≡ Some s → IsUnder s table.old h.now →
-        FaultIs result (option_map Package (records_fault (held_package s table.old.slot h.now))) }
+    ensures answer { is_fault result ≡ false → Told (B.view board.old) (λ s.
+        IsUnder s table.old h.now → FaultIs result
+        (option_map Package (records_fault (held_package s table.old.slot h.now)))) }
     ensures kinds { IfErr result (λ f. is_of_package f ≡ true) }
     ensures reads { Reads (B.view board.old) (B.view board.new) }
-    ensures no_fault { is_fault result ≡ false → (B.view board.new).flash_faults ≡ (B.view board.old).flash_faults }
-    ensures failed { is_fault result ≡ true → Rose (B.view board.old).flash_faults (B.view board.new).flash_faults }
+    ensures faults { FlashFaultsWhere (is_fault result) (B.view board.old) (B.view board.new) }
 {
     match check_exports(board, table, h) {
         Ok(()) => {}
@@ -183,15 +186,16 @@ pub fn check_package<B: Board>(board: &mut B, slot: u8, e: &Entry) -> Result<Hea
     requires slot { slot < 32 }
     requires least { 32 ≤ e.now.length }
     requires most { e.now.length ≤ 9984 }
-    ensures answer { is_fault result ≡ false → (s : State) → (B.view board.old).state ≡ Some s → FaultIs result (package_answer e.now (held_bytes s slot e.now.length)) }
-    ensures header { IfOk result (λ h. (s : State) → (B.view board.old).state ≡ Some s → h ≡ header_of (held_bytes s slot e.now.length)) }
+    ensures answer { is_fault result ≡ false → Told (B.view board.old) (λ s.
+        FaultIs result (package_answer e.now (held_bytes s slot e.now.length))) }
+    ensures header { IfOk result (λ h. Told (B.view board.old) (λ s. h ≡
+        header_of (held_bytes s slot e.now.length))) }
     ensures kinds { IfErr result (λ f. is_of_package f ≡ true) }
     // On every board, so that a set that is answered meets the conditions of the calls that take one.
     ensures even { IfOk result (λ h. IsTrue (has_even_lengths h)) }
     ensures total { IfOk result (λ h. total_of h ≡ e.now.length) }
     ensures reads { Reads (B.view board.old) (B.view board.new) }
-    ensures no_fault { is_fault result ≡ false → (B.view board.new).flash_faults ≡ (B.view board.old).flash_faults }
-    ensures failed { is_fault result ≡ true → Rose (B.view board.old).flash_faults (B.view board.new).flash_faults }
+    ensures faults { FlashFaultsWhere (is_fault result) (B.view board.old) (B.view board.new) }
 {
     let mut table = SlotReader::new(slot);
     let header = match stored_header(board, &mut table, e.length) {

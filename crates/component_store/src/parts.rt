@@ -2,7 +2,7 @@
 
 ghost use Rattle.std.specs.Prelude.{◌≡◌, ◌≤◌, ◌<◌, ◌+◌, IfOk, OnErr, OnOk, Some, None, Ok, [], ◌∷◌, length, slice_get, slice_index, slice_range, if◌then◌else◌};
 ghost use Rattle.flash_pages.specs.State.{State};
-ghost use Rattle.flash_pages.specs.Board.{View, Told, Reads, Rose, FlashFaults};
+ghost use Rattle.flash_pages.specs.Board.{View, Told, Reads, FlashFaults};
 ghost use Rattle.component_package.specs.declared.part.Export.{Export};
 ghost use Rattle.component_package.specs.declared.part.Reloc.{Reloc};
 ghost use Rattle.component_package.specs.packages.Component.{Component};
@@ -47,7 +47,8 @@ pub(crate) fn export_in(h: &Header, i: u16, raw: &[u8; 6]) -> Export
 
 // The relocation that eight bytes spell, whatever came before it and with whatever field.
 fn reloc_in(h: &Header, i: u16, raw: &[u8; 8]) -> Reloc
-    ensures { (r : Reloc) → check_reloc_of h.now None i raw.now (0 ∷ 0 ∷ 0 ∷ 0 ∷ []) ≡ Ok r → result ≡ r }
+    ensures { (r : Reloc) → check_reloc_of h.now None i raw.now (0 ∷ 0 ∷ 0 ∷ 0 ∷ []) ≡ Ok r →
+        result ≡ r }
 {
     match check_reloc(h, None, i, raw, &[0; 4]) {
         Ok(reloc) => reloc,
@@ -82,10 +83,10 @@ pub fn export_at<B: Board>(board: &mut B, set: &StoredSet, k: u8, i: u16) -> Res
     requires set { IsSet set.now }
     requires component { k < set.now.slots.manifest.count }
     requires export { i < (header_at set.now k).exports }
-    ensures export { IfOk result (λ e. (s : State) → (B.view board.old).state ≡ Some s → HoldsSet s set.now → (c : Component) → IsComponentOf s set.now k c → slice_get c.exports i ≡ Some e) }
+    ensures answer { IfOk result (λ e. Told (B.view board.old) (λ s. HoldsSet s set.now →
+        (c : Component) → IsComponentOf s set.now k c → slice_get c.exports i ≡ Some e)) }
     ensures reads { Reads (B.view board.old) (B.view board.new) }
-    ensures no_fault { OnOk result ((B.view board.new).flash_faults ≡ (B.view board.old).flash_faults) }
-    ensures failed { OnErr result (Rose (B.view board.old).flash_faults (B.view board.new).flash_faults) }
+    ensures faults { FlashFaults result (B.view board.old) (B.view board.new) }
 {
     let h = set.headers[k as usize];
     let mut table = reader_of(set, k);
@@ -121,8 +122,11 @@ pub fn read_reloc<B: Board>(
     requires set { IsSet set.now }
     requires component { k < set.now.slots.manifest.count }
     requires reloc { i < (header_at set.now k).relocs }
-    ensures reloc { IfOk result (λ r. Told (B.view board.old) (λ s. Keeps s table.old → HoldsSet s set.now → (c : Component) → IsComponentOf s set.now k c → slice_get c.relocs i ≡ Some r)) }
-    ensures keeps { OnOk result (Told (B.view board.old) (λ s. Keeps s table.old → HoldsSet s set.now → (c : Component) → IsComponentOf s set.now k c → Keeps s table.new)) }
+    ensures answer { IfOk result (λ r. Told (B.view board.old) (λ s. Keeps s table.old →
+        HoldsSet s set.now → (c : Component) → IsComponentOf s set.now k c →
+        slice_get c.relocs i ≡ Some r)) }
+    ensures keeps { OnOk result (Told (B.view board.old) (λ s. Keeps s table.old →
+        HoldsSet s set.now → (c : Component) → IsComponentOf s set.now k c → Keeps s table.new)) }
     ensures reads { Reads (B.view board.old) (B.view board.new) }
     ensures faults { FlashFaults result (B.view board.old) (B.view board.new) }
 {
@@ -137,10 +141,10 @@ pub fn reloc_at<B: Board>(board: &mut B, set: &StoredSet, k: u8, i: u16) -> Resu
     requires set { IsSet set.now }
     requires component { k < set.now.slots.manifest.count }
     requires reloc { i < (header_at set.now k).relocs }
-    ensures reloc { IfOk result (λ r. (s : State) → (B.view board.old).state ≡ Some s → HoldsSet s set.now → (c : Component) → IsComponentOf s set.now k c → slice_get c.relocs i ≡ Some r) }
+    ensures answer { IfOk result (λ r. Told (B.view board.old) (λ s. HoldsSet s set.now →
+        (c : Component) → IsComponentOf s set.now k c → slice_get c.relocs i ≡ Some r)) }
     ensures reads { Reads (B.view board.old) (B.view board.new) }
-    ensures no_fault { OnOk result ((B.view board.new).flash_faults ≡ (B.view board.old).flash_faults) }
-    ensures failed { OnErr result (Rose (B.view board.old).flash_faults (B.view board.new).flash_faults) }
+    ensures faults { FlashFaults result (B.view board.old) (B.view board.new) }
 {
     let mut table = SlotReader::new(0);
     let reloc = read_reloc(board, set, &mut table, k, i)?;
@@ -160,10 +164,11 @@ pub fn part_bytes<B: Board>(
     requires set { IsSet set.now }
     requires component { k < set.now.slots.manifest.count }
     requires within { from + length into.old ≤ length_of_part (header_at set.now k) in_init }
-    ensures bytes { OnOk result ((s : State) → (B.view board.old).state ≡ Some s → HoldsSet s set.now → (c : Component) → IsComponentOf s set.now k c → into.new ≡ slice_range (part_of c in_init) from (from + length into.old)) }
+    ensures answer { OnOk result (Told (B.view board.old) (λ s. HoldsSet s set.now →
+        (c : Component) → IsComponentOf s set.now k c → into.new ≡
+        slice_range (part_of c in_init) from (from + length into.old))) }
     ensures reads { Reads (B.view board.old) (B.view board.new) }
-    ensures no_fault { OnOk result ((B.view board.new).flash_faults ≡ (B.view board.old).flash_faults) }
-    ensures failed { OnErr result (Rose (B.view board.old).flash_faults (B.view board.new).flash_faults) }
+    ensures faults { FlashFaults result (B.view board.old) (B.view board.new) }
 {
     let h = set.headers[k as usize];
     let mut reader = reader_of(set, k);

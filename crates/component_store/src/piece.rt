@@ -3,7 +3,7 @@
 ghost use Rattle.std.specs.Prelude.{◌≡◌, ◌≢◌, ◌↔◌, ◌≤◌, ◌<◌, ◌+◌, ◌*◌, true, false, IsTrue, IfOk, OnOk, length, replicate, [], Some, slice_set, slice_index_or};
 ghost use Rattle.std.specs.Result.{result_err};
 ghost use Rattle.flash_pages.specs.State.{State, page_at, with_page};
-ghost use Rattle.flash_pages.specs.Board.{View, Reads, Programs, Rose};
+ghost use Rattle.flash_pages.specs.Board.{View, Told, Reads, Programs, FlashFaultsWhere};
 ghost use Rattle.component_package.specs.mote.Page.{filled_page};
 ghost use Rattle.component_package.specs.mote.Machine.{with_page_of};
 ghost use Rattle.component_package.specs.mote.Store.{page_of_slot, slots_of};
@@ -73,11 +73,12 @@ pub fn piece_differs<B: Board>(
     requires slot { slot < 32 }
     requires least { 32 ≤ size }
     requires most { size ≤ 9984 }
-    ensures refused { is_fault result ≡ false → result_err result ≡ piece_fault size page (length bytes.now) }
-    ensures answer { IfOk result (λ d. (s : State) → (B.view board.old).state ≡ Some s → IsTrue d ↔ (page_at s (piece_place slot page) ≢ filled_page bytes.now)) }
+    ensures refused { is_fault result ≡ false → result_err result ≡
+        piece_fault size page (length bytes.now) }
+    ensures answer { IfOk result (λ d. Told (B.view board.old) (λ s. IsTrue d ↔
+        (page_at s (piece_place slot page) ≢ filled_page bytes.now))) }
     ensures reads { Reads (B.view board.old) (B.view board.new) }
-    ensures no_fault { is_fault result ≡ false → (B.view board.new).flash_faults ≡ (B.view board.old).flash_faults }
-    ensures failed { is_fault result ≡ true → Rose (B.view board.old).flash_faults (B.view board.new).flash_faults }
+    ensures faults { FlashFaultsWhere (is_fault result) (B.view board.old) (B.view board.new) }
 {
     if let Some(fault) = piece_fault(size, page, bytes.len()) {
         return Err(fault);
@@ -100,14 +101,17 @@ pub fn put_piece<B: Board>(
     requires slot { slot < 32 }
     requires least { 32 ≤ size }
     requires most { size ≤ 9984 }
-    ensures refused { is_fault result ≡ false → result_err result ≡ piece_fault size page (length bytes.now) }
-    ensures ok { OnOk result ((s : State) → (B.view board.old).state ≡ Some s → (B.view board.new).state ≡ Some (with_page s (piece_place slot page) (filled_page bytes.now))) }
-    ensures programs { Programs (IsPiece size page (length bytes.now)) (piece_place slot page) (B.view board.old) (B.view board.new) }
+    ensures refused { is_fault result ≡ false → result_err result ≡
+        piece_fault size page (length bytes.now) }
+    ensures ok { OnOk result (Told (B.view board.old) (λ s. (B.view board.new).state ≡
+        Some (with_page s (piece_place slot page) (filled_page bytes.now)))) }
+    ensures programs { Programs (IsPiece size page (length bytes.now)) (piece_place slot page)
+        (B.view board.old) (B.view board.new) }
     // The slot's page is these bytes, and all other slots are as they were.
-    ensures slots { OnOk result ((s x : State) → (B.view board.old).state ≡ Some s → (B.view board.new).state ≡ Some x →
-        slots_of x.ext ≡ slice_set (slots_of s.ext) slot (with_page_of page bytes.now (slice_index_or (slots_of s.ext) slot []))) }
-    ensures no_fault { is_fault result ≡ false → (B.view board.new).flash_faults ≡ (B.view board.old).flash_faults }
-    ensures failed { is_fault result ≡ true → Rose (B.view board.old).flash_faults (B.view board.new).flash_faults }
+    ensures slots { OnOk result ((s x : State) → (B.view board.old).state ≡ Some s →
+        (B.view board.new).state ≡ Some x → slots_of x.ext ≡ slice_set (slots_of s.ext) slot
+        (with_page_of page bytes.now (slice_index_or (slots_of s.ext) slot []))) }
+    ensures faults { FlashFaultsWhere (is_fault result) (B.view board.old) (B.view board.new) }
 {
     if let Some(fault) = piece_fault(size, page, bytes.len()) {
         return Err(fault);

@@ -2,7 +2,7 @@
 
 ghost use Rattle.std.specs.Prelude.{◌≡◌, ◌≤◌, ◌<◌, ◌+◌, ◌*◌, length, take, drop, Some, OnOk, OnErr};
 ghost use Rattle.flash_pages.specs.State.{State, Ext, page_at};
-ghost use Rattle.flash_pages.specs.Board.{View, Reads, Rose};
+ghost use Rattle.flash_pages.specs.Board.{View, Told, Reads, FlashFaults};
 ghost use Rattle.component_package.specs.mote.Store.{page_of_slot, slot_at};
 ghost use Rattle.component_store.specs.Reader.{Keeps};
 
@@ -37,12 +37,13 @@ impl SlotReader {
     fn turn<B: Board>(&mut self, board: &mut B, page: u8) -> Result<(), Failed>
         requires slot { self.old.slot < 32 }
         requires page { page < 39 }
-        ensures page { OnOk result ((s : State) → (B.view board.old).state ≡ Some s → Keeps s self.old → self.new.bytes ≡ page_at s (Ext (page_of_slot self.old.slot page))) }
-        ensures keeps { OnOk result ((s : State) → (B.view board.old).state ≡ Some s → Keeps s self.old → Keeps s self.new) }
+        ensures answer { OnOk result (Told (B.view board.old) (λ s. Keeps s self.old →
+            self.new.bytes ≡ page_at s (Ext (page_of_slot self.old.slot page)))) }
+        ensures keeps { OnOk result (Told (B.view board.old) (λ s. Keeps s self.old →
+            Keeps s self.new)) }
         ensures slot { self.new.slot ≡ self.old.slot }
         ensures reads { Reads (B.view board.old) (B.view board.new) }
-        ensures no_fault { OnOk result ((B.view board.new).flash_faults ≡ (B.view board.old).flash_faults) }
-        ensures failed { OnErr result (Rose (B.view board.old).flash_faults (B.view board.new).flash_faults) }
+        ensures faults { FlashFaults result (B.view board.old) (B.view board.new) }
     {
         if self.page == page {
             return Ok(());
@@ -63,13 +64,14 @@ impl SlotReader {
         requires slot { self.old.slot < 32 }
         requires page { page < 39 }
         requires within { at + length into.old ≤ 256 }
-        ensures ok { OnOk result ((s : State) → (B.view board.old).state ≡ Some s → Keeps s self.old →
-            into.new ≡ take (length into.old) (drop at (page_at s (Ext (page_of_slot self.old.slot page))))) }
-        ensures keeps { OnOk result ((s : State) → (B.view board.old).state ≡ Some s → Keeps s self.old → Keeps s self.new) }
+        ensures answer { OnOk result (Told (B.view board.old) (λ s. Keeps s self.old → into.new ≡
+            take (length into.old)
+            (drop at (page_at s (Ext (page_of_slot self.old.slot page)))))) }
+        ensures keeps { OnOk result (Told (B.view board.old) (λ s. Keeps s self.old →
+            Keeps s self.new)) }
         ensures slot { self.new.slot ≡ self.old.slot }
         ensures reads { Reads (B.view board.old) (B.view board.new) }
-        ensures no_fault { OnOk result ((B.view board.new).flash_faults ≡ (B.view board.old).flash_faults) }
-        ensures failed { OnErr result (Rose (B.view board.old).flash_faults (B.view board.new).flash_faults) }
+        ensures faults { FlashFaults result (B.view board.old) (B.view board.new) }
     {
         self.turn(board, page)?;
         into.copy_from_slice(&self.bytes[at..at + into.len()]);
@@ -86,13 +88,13 @@ impl SlotReader {
         requires slot { self.old.slot < 32 }
         requires short { length into.old ≤ 256 }
         requires within { from + length into.old ≤ 9984 }
-        ensures ok { OnOk result ((s : State) → (B.view board.old).state ≡ Some s → Keeps s self.old →
-            into.new ≡ take (length into.old) (drop from (slot_at s.ext self.old.slot))) }
-        ensures keeps { OnOk result ((s : State) → (B.view board.old).state ≡ Some s → Keeps s self.old → Keeps s self.new) }
+        ensures answer { OnOk result (Told (B.view board.old) (λ s. Keeps s self.old → into.new ≡
+            take (length into.old) (drop from (slot_at s.ext self.old.slot)))) }
+        ensures keeps { OnOk result (Told (B.view board.old) (λ s. Keeps s self.old →
+            Keeps s self.new)) }
         ensures slot { self.new.slot ≡ self.old.slot }
         ensures reads { Reads (B.view board.old) (B.view board.new) }
-        ensures no_fault { OnOk result ((B.view board.new).flash_faults ≡ (B.view board.old).flash_faults) }
-        ensures failed { OnErr result (Rose (B.view board.old).flash_faults (B.view board.new).flash_faults) }
+        ensures faults { FlashFaults result (B.view board.old) (B.view board.new) }
     {
         if into.is_empty() {
             return Ok(());

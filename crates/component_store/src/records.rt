@@ -2,7 +2,7 @@
 
 ghost use Rattle.std.specs.Prelude.{◌≡◌, ◌≤◌, ◌<◌, IfOk, OnErr, OnOk, Some};
 ghost use Rattle.flash_pages.specs.State.{State};
-ghost use Rattle.flash_pages.specs.Board.{View, Reads, Rose};
+ghost use Rattle.flash_pages.specs.Board.{View, Told, Reads, FlashFaults};
 ghost use Rattle.component_package.specs.packages.Reading.{total_of, raw_export, raw_reloc, field_span_of};
 ghost use Rattle.component_package.specs.Laws.{spanned_field};
 ghost use Rattle.component_store.specs.Reader.{IsUnder, held_package};
@@ -21,12 +21,13 @@ pub(crate) fn export_raw<B: Board>(
     requires slot { table.old.slot < 32 }
     requires whole { total_of h.now ≤ 9984 }
     requires inside { i < h.now.exports }
-    ensures raw { IfOk result (λ raw. (s : State) → (B.view board.old).state ≡ Some s → IsUnder s table.old h.now → raw ≡ raw_export (held_package s table.old.slot h.now) i) }
-    ensures keeps { OnOk result ((s : State) → (B.view board.old).state ≡ Some s → IsUnder s table.old h.now → IsUnder s table.new h.now) }
+    ensures answer { IfOk result (λ raw. Told (B.view board.old) (λ s. IsUnder s table.old h.now →
+        raw ≡ raw_export (held_package s table.old.slot h.now) i)) }
+    ensures keeps { OnOk result (Told (B.view board.old) (λ s. IsUnder s table.old h.now →
+        IsUnder s table.new h.now)) }
     ensures slot { table.new.slot ≡ table.old.slot }
     ensures reads { Reads (B.view board.old) (B.view board.new) }
-    ensures no_fault { OnOk result ((B.view board.new).flash_faults ≡ (B.view board.old).flash_faults) }
-    ensures failed { OnErr result (Rose (B.view board.old).flash_faults (B.view board.new).flash_faults) }
+    ensures faults { FlashFaults result (B.view board.old) (B.view board.new) }
 {
     let mut raw = [0; 6];
     let at = 32 + h.code as u32 + h.init as u32 + 6 * i as u32;
@@ -44,12 +45,13 @@ pub(crate) fn reloc_raw<B: Board>(
     requires slot { table.old.slot < 32 }
     requires whole { total_of h.now ≤ 9984 }
     requires inside { i < h.now.relocs }
-    ensures raw { IfOk result (λ raw. (s : State) → (B.view board.old).state ≡ Some s → IsUnder s table.old h.now → raw ≡ raw_reloc (held_package s table.old.slot h.now) i) }
-    ensures keeps { OnOk result ((s : State) → (B.view board.old).state ≡ Some s → IsUnder s table.old h.now → IsUnder s table.new h.now) }
+    ensures answer { IfOk result (λ raw. Told (B.view board.old) (λ s. IsUnder s table.old h.now →
+        raw ≡ raw_reloc (held_package s table.old.slot h.now) i)) }
+    ensures keeps { OnOk result (Told (B.view board.old) (λ s. IsUnder s table.old h.now →
+        IsUnder s table.new h.now)) }
     ensures slot { table.new.slot ≡ table.old.slot }
     ensures reads { Reads (B.view board.old) (B.view board.new) }
-    ensures no_fault { OnOk result ((B.view board.new).flash_faults ≡ (B.view board.old).flash_faults) }
-    ensures failed { OnErr result (Rose (B.view board.old).flash_faults (B.view board.new).flash_faults) }
+    ensures faults { FlashFaults result (B.view board.old) (B.view board.new) }
 {
     let mut raw = [0; 8];
     let exports = 32 + h.code as u32 + h.init as u32;
@@ -67,12 +69,14 @@ pub(crate) fn field_raw<B: Board>(
 ) -> Result<[u8; 4], Failed>
     requires slot { fields.old.slot < 32 }
     requires whole { total_of h.now ≤ 9984 }
-    ensures field { IfOk result (λ field. (s : State) → (B.view board.old).state ≡ Some s → IsUnder s fields.old h.now → field ≡ spanned_field (held_package s fields.old.slot h.now) (field_span_of h.now raw.now)) }
-    ensures keeps { OnOk result ((s : State) → (B.view board.old).state ≡ Some s → IsUnder s fields.old h.now → IsUnder s fields.new h.now) }
+    ensures answer { IfOk result (λ field. Told (B.view board.old) (λ s.
+        IsUnder s fields.old h.now → field ≡
+        spanned_field (held_package s fields.old.slot h.now) (field_span_of h.now raw.now))) }
+    ensures keeps { OnOk result (Told (B.view board.old) (λ s. IsUnder s fields.old h.now →
+        IsUnder s fields.new h.now)) }
     ensures slot { fields.new.slot ≡ fields.old.slot }
     ensures reads { Reads (B.view board.old) (B.view board.new) }
-    ensures no_fault { OnOk result ((B.view board.new).flash_faults ≡ (B.view board.old).flash_faults) }
-    ensures failed { OnErr result (Rose (B.view board.old).flash_faults (B.view board.new).flash_faults) }
+    ensures faults { FlashFaults result (B.view board.old) (B.view board.new) }
 {
     let mut field = [0; 4];
     if let Some((at, width)) = field_span(h, raw) {

@@ -103,7 +103,8 @@ fn least_free(current: &SlotManifest, given: &[u8]) -> u8
 // The slot of an entry behind those that were given theirs.
 fn place(current: &SlotManifest, given: &[u8], e: &Entry) -> u8
     requires { current.now.manifest.count ≤ 16 }
-    ensures { result ≡ unwrap_or (held_slot (stored_of current.now) e.now) (least_free (used_slots current.now ++ given.now)) }
+    ensures { result ≡ unwrap_or (held_slot (stored_of current.now) e.now)
+        (least_free (used_slots current.now ++ given.now)) }
 {
     match held_slot(current, e) {
         Some(slot) => slot,
@@ -117,7 +118,8 @@ fn place(current: &SlotManifest, given: &[u8], e: &Entry) -> u8
 pub fn slot_for(current: &SlotManifest, incoming: &Manifest) -> SlotManifest
     requires current { IsSlotManifest current.now }
     requires incoming { IsManifest incoming.now }
-    ensures slots { stored_of result ≡ slots_for (stored_of current.now) (release_of incoming.now) }
+    ensures slots { stored_of result ≡
+        slots_for (stored_of current.now) (release_of incoming.now) }
     ensures stored { IsSlotManifest result }
 {
     let mut slots = [0; 16];

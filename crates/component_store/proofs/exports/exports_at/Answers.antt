@@ -1,13 +1,11 @@
-use Rattle.std.proofs.Common.{◌≡◌, ℕ, ◌+◌, ◌-◌, ◌<◌, List, [], ◌∷◌, ◌++◌, Some, length, take, drop, set, get_or, sym, ap, subst, ◌∙◌, arith, rules}
+use Rattle.std.proofs.Common.{◌≡◌, ℕ, ◌+◌, ◌-◌, ◌<◌, List, [], ◌∷◌, ◌++◌, length, take, drop, get_or, sym, ap, ◌∙◌, arith, rules}
 use Rattle.std.proofs.lemmas.List.{take_more_set, take_all}
-use Rattle.flash_pages.specs.State.{State}
 use Rattle.flash_pages.proofs.Runs.{reads_reads}
 use Rattle.component_package.specs.declared.part.Export.{Export}
 use Rattle.component_package.specs.declared.part.Header.{Header}
-use Rattle.component_package.specs.packages.Component.{Component}
 use Rattle.component_package.specs.packages.Reading.{header_of, raw_export}
 use Rattle.component_store.specs.Reader.{held_package}
-use Rattle.component_store.specs.Sets.{HasRooms, header_at}
+use Rattle.component_store.specs.Sets.{header_at}
 use Rattle.component_store.proofs.Calls.{reads_none}
 use Rattle.component_store.proofs.PartLemmas.{IsHeld, held_component}
 use Rattle.component_store.proofs.ExportLemmas.{held_export, held_count, range_more}
@@ -39,7 +37,7 @@ loop-j-preserved g c = record {
       let before = c.loop-j.invariant.done s told holds comp component in
       let under = c.loop-j.invariant.under s told holds comp component in
       let h : Header = header_at c.args.set.now c.args.k in
-      let bytes = c.in_ok-raw.ensures.raw s (c.loop-j.invariant.reads.state ∙ told) under ∙ ap (λ (n : ℕ). raw_export (held_package s n h) (c.args.i + c.loop-j.j)) c.loop-j.invariant.slot in
+      let bytes = c.in_ok-raw.ensures.answer s (c.loop-j.invariant.reads.state ∙ told) under ∙ ap (λ (n : ℕ). raw_export (held_package s n h) (c.args.i + c.loop-j.j)) c.loop-j.invariant.slot in
       let room : length c.loop-j.into ≡ length c.args.into.now = c.loop-j.invariant.room in
       let within = c.requires.within in
       let inside : c.loop-j.j < length c.loop-j.into = search rules in
@@ -47,11 +45,11 @@ loop-j-preserved g c = record {
       let here = held_export s c.args.set.now c.args.k comp c.requires.set c.reader_of-table.ensures.rooms c.requires.component holds component (c.args.i + c.loop-j.j) c.in_ok-raw.raw e (omega arith) bytes c.export_in.ensures in
       take_more_set c.loop-j.into c.loop-j.j e inside ∙ ap (λ (xs : List Export). xs ++ e ∷ []) before ∙ sym (range_more comp.exports c.args.i c.loop-j.j e here);
   reads = reads_reads _ _ _ c.loop-j.invariant.reads c.export_raw.ensures.reads;
-  fault = c.in_ok-raw.ensures.no_fault ∙ c.loop-j.invariant.fault;
+  fault = c.in_ok-raw.ensures.faults ∙ c.loop-j.invariant.fault;
 }
 
-pub returns-clause-exports : goal.returns-clause-exports
-returns-clause-exports g c = λ s told holds comp component.
+pub returns-clause-answer : goal.returns-clause-answer
+returns-clause-answer g c = λ s told holds comp component.
     let room : length c.loop-j.into ≡ length c.args.into.now = c.loop-j.invariant.room in
     let all : c.loop-j.j ≡ length c.args.into.now = search rules in
     sym (take_all c.loop-j.j c.loop-j.into (omega arith)) ∙ c.loop-j.invariant.done s told holds comp component

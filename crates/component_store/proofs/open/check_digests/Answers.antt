@@ -63,5 +63,5 @@ loop-k-preserved g c = record {
       let here = missing ∙ ap (λ (b : Bool). cond (not b) (Some (Missing k)) None) c.if-not-is_there.false in
       first_fault-more (missing_at (slots_of s.ext) (stored_of m)) k (c.loop-k.invariant.none s told) here;
   reads = reads_reads _ _ _ c.loop-k.invariant.reads c.check.ensures.reads;
-  fault = c.in-Ok.ensures.no_fault ∙ c.loop-k.invariant.fault;
+  fault = c.in-Ok.ensures.faults ∙ c.loop-k.invariant.fault;
 }

@@ -93,5 +93,5 @@ loop-k-preserved g c = record {
         | inr both ↦ let apart : j ≢ k = both.0 in c.loop-k.invariant.fits j h e (omega (arith, lt)) both.1 at_e
       ];
   reads = reads_reads _ _ _ c.loop-k.invariant.reads c.check_package.ensures.reads;
-  fault = c.in-Ok.ensures.no_fault refl ∙ c.loop-k.invariant.fault;
+  fault = c.in-Ok.ensures.faults ∙ c.loop-k.invariant.fault;
 }

@@ -16,7 +16,7 @@ loop-i-preserved g c = record {
   slot = c.read.ensures.slot ∙ c.loop-i.invariant.slot;
   keeps = λ s told. c.in_ok-read.ensures.keeps s (c.loop-i.invariant.reads.state ∙ told) (c.loop-i.invariant.keeps s told);
   holds = λ s told.
-      let page = c.in_ok-read.ensures.ok s (c.loop-i.invariant.reads.state ∙ told) (c.loop-i.invariant.keeps s told) in
+      let page = c.in_ok-read.ensures.answer s (c.loop-i.invariant.reads.state ∙ told) (c.loop-i.invariant.keeps s told) in
       let step = c.update.ensures (take (256 * c.loop-i.i) (slot_at s.ext c.args.slot)) (c.loop-i.invariant.holds s told) in
       let b : List ℕ = slot_at s.ext c.args.slot in
       let i : ℕ = c.loop-i.i in
@@ -25,7 +25,7 @@ loop-i-preserved g c = record {
       let whole : take (256 * i) b ++ c.as_slice.result.now ≡ take (256 * (i + 1)) b = ap (λ (l : List ℕ). take (256 * i) b ++ l) here ∙ sym (take_further b (256 * i) 256) ∙ ap (λ (k : ℕ). take k b) next in
       subst (λ (l : List ℕ). Holds256 c.update.new.self l) whole step;
   reads = reads_reads _ _ _ c.loop-i.invariant.reads c.read.ensures.reads;
-  fault = c.in_ok-read.ensures.no_fault ∙ c.loop-i.invariant.fault;
+  fault = c.in_ok-read.ensures.faults ∙ c.loop-i.invariant.fault;
 }
 
 pub returns-in_err-read-2-clause-reads : goal.returns-in_err-read-2-clause-reads
@@ -33,7 +33,7 @@ returns-in_err-read-2-clause-reads g c = reads_reads _ _ _ c.loop-i.invariant.re
 
 pub returns-clause-answer : goal.returns-clause-answer
 returns-clause-answer g c = λ s told.
-    let page = c.in_ok-read-2.ensures.ok s (c.loop-i.invariant.reads.state ∙ told) (c.loop-i.invariant.keeps s told) in
+    let page = c.in_ok-read-2.ensures.answer s (c.loop-i.invariant.reads.state ∙ told) (c.loop-i.invariant.keeps s told) in
     let step = c.update-2.ensures (take (256 * c.loop-i.i) (slot_at s.ext c.args.slot)) (c.loop-i.invariant.holds s told) in
     let b : List ℕ = slot_at s.ext c.args.slot in
     let i : ℕ = c.loop-i.i in

@@ -17,7 +17,7 @@ returns-in-Err-clause-answer g c = λ e s told under.
     let h : Header = c.args.h.now in
     let i : ℕ = c.loop-i.i in
     let b : List ℕ = held_package s c.args.table.now.slot h in
-    let raw = c.in-Ok.ensures.raw s (c.loop-i.invariant.reads.state ∙ told) (c.loop-i.invariant.under s told under) ∙ ap (λ (k : ℕ). raw_export (held_package s k h) i) c.loop-i.invariant.slot in
+    let raw = c.in-Ok.ensures.answer s (c.loop-i.invariant.reads.state ∙ told) (c.loop-i.invariant.under s told under) ∙ ap (λ (k : ℕ). raw_export (held_package s k h) i) c.loop-i.invariant.slot in
     let here = export_fault_is b h c.loop-i.before i c.in-Ok.raw (Err c.in-Err.fault) under.header (c.loop-i.invariant.before s told under) raw c.in-Err.ensures in
     let below : i < (header_of b).exports = omega (arith, c.loop-i-test.true, ap (λ (k : Header). k.exports) under.header) in
     ap (option_map Package) (first_fault-at (export_fault b) (header_of b).exports i c.in-Err.fault below (c.loop-i.invariant.none s told under) here)
@@ -33,17 +33,17 @@ loop-i-preserved g c = record {
       let h : Header = c.args.h.now in
       let i : ℕ = c.loop-i.i in
       let b : List ℕ = held_package s c.args.table.now.slot h in
-      let raw = c.in-Ok.ensures.raw s (c.loop-i.invariant.reads.state ∙ told) (c.loop-i.invariant.under s told under) ∙ ap (λ (k : ℕ). raw_export (held_package s k h) i) c.loop-i.invariant.slot in
+      let raw = c.in-Ok.ensures.answer s (c.loop-i.invariant.reads.state ∙ told) (c.loop-i.invariant.under s told under) ∙ ap (λ (k : ℕ). raw_export (held_package s k h) i) c.loop-i.invariant.slot in
       let here = export_fault_is b h c.loop-i.before i c.in-Ok.raw (Ok c.in-Ok-check_export.export) under.header (c.loop-i.invariant.before s told under) raw c.in-Ok-check_export.ensures in
       first_fault-more (export_fault b) i (c.loop-i.invariant.none s told under) here;
   before = λ s told under.
       let h : Header = c.args.h.now in
       let i : ℕ = c.loop-i.i in
       let b : List ℕ = held_package s c.args.table.now.slot h in
-      let raw = c.in-Ok.ensures.raw s (c.loop-i.invariant.reads.state ∙ told) (c.loop-i.invariant.under s told under) ∙ ap (λ (k : ℕ). raw_export (held_package s k h) i) c.loop-i.invariant.slot in
+      let raw = c.in-Ok.ensures.answer s (c.loop-i.invariant.reads.state ∙ told) (c.loop-i.invariant.under s told under) ∙ ap (λ (k : ℕ). raw_export (held_package s k h) i) c.loop-i.invariant.slot in
       symbol_after b h c.loop-i.before i c.in-Ok.raw c.in-Ok-check_export.export raw c.in-Ok-check_export.ensures;
   reads = reads_reads _ _ _ c.loop-i.invariant.reads c.export_raw.ensures.reads;
-  fault = c.in-Ok.ensures.no_fault ∙ c.loop-i.invariant.fault;
+  fault = c.in-Ok.ensures.faults ∙ c.loop-i.invariant.fault;
 }
 
 pub returns-clause-answer : goal.returns-clause-answer

@@ -22,8 +22,8 @@ returns-in-Err-clause-answer g c = λ e s told under.
     let i : ℕ = c.loop-i.i in
     let b : List ℕ = held_package s c.args.table.now.slot h in
     let told2 = c.loop-i.invariant.reads.state ∙ told in
-    let raw = c.in-Ok.ensures.raw s told2 (c.loop-i.invariant.under s told under) ∙ ap (λ (k : ℕ). raw_reloc (held_package s k h) i) c.loop-i.invariant.slot in
-    let field = c.in-Ok-field_raw.ensures.field s (c.reloc_raw.ensures.reads.state ∙ told2) (c.loop-i.invariant.fields_under s told under) ∙ ap (λ (k : ℕ). spanned_field (held_package s k h) (field_span_of h c.in-Ok.raw)) c.loop-i.invariant.field_slot in
+    let raw = c.in-Ok.ensures.answer s told2 (c.loop-i.invariant.under s told under) ∙ ap (λ (k : ℕ). raw_reloc (held_package s k h) i) c.loop-i.invariant.slot in
+    let field = c.in-Ok-field_raw.ensures.answer s (c.reloc_raw.ensures.reads.state ∙ told2) (c.loop-i.invariant.fields_under s told under) ∙ ap (λ (k : ℕ). spanned_field (held_package s k h) (field_span_of h c.in-Ok.raw)) c.loop-i.invariant.field_slot in
     let result = rw (c.as_ref.ensures.value) at c.in-Err.ensures in
     let here = reloc_fault_is b h c.loop-i.before i c.in-Ok.raw c.in-Ok-field_raw.field (Err c.in-Err.fault) under.header (c.loop-i.invariant.before s told under) raw field result in
     let below : i < (header_of b).relocs = omega (arith, c.loop-i-test.true, ap (λ (k : Header). k.relocs) under.header) in
@@ -43,8 +43,8 @@ loop-i-preserved g c = record {
       let i : ℕ = c.loop-i.i in
       let b : List ℕ = held_package s c.args.table.now.slot h in
       let told2 = c.loop-i.invariant.reads.state ∙ told in
-      let raw = c.in-Ok.ensures.raw s told2 (c.loop-i.invariant.under s told under) ∙ ap (λ (k : ℕ). raw_reloc (held_package s k h) i) c.loop-i.invariant.slot in
-      let field = c.in-Ok-field_raw.ensures.field s (c.reloc_raw.ensures.reads.state ∙ told2) (c.loop-i.invariant.fields_under s told under) ∙ ap (λ (k : ℕ). spanned_field (held_package s k h) (field_span_of h c.in-Ok.raw)) c.loop-i.invariant.field_slot in
+      let raw = c.in-Ok.ensures.answer s told2 (c.loop-i.invariant.under s told under) ∙ ap (λ (k : ℕ). raw_reloc (held_package s k h) i) c.loop-i.invariant.slot in
+      let field = c.in-Ok-field_raw.ensures.answer s (c.reloc_raw.ensures.reads.state ∙ told2) (c.loop-i.invariant.fields_under s told under) ∙ ap (λ (k : ℕ). spanned_field (held_package s k h) (field_span_of h c.in-Ok.raw)) c.loop-i.invariant.field_slot in
       let result = rw (c.as_ref.ensures.value) at c.in-Ok-check_reloc.ensures in
       let here = reloc_fault_is b h c.loop-i.before i c.in-Ok.raw c.in-Ok-field_raw.field (Ok c.in-Ok-check_reloc.reloc) under.header (c.loop-i.invariant.before s told under) raw field result in
       first_fault-more (reloc_fault b) i (c.loop-i.invariant.none s told under) here;
@@ -52,11 +52,11 @@ loop-i-preserved g c = record {
       let h : Header = c.args.h.now in
       let i : ℕ = c.loop-i.i in
       let b : List ℕ = held_package s c.args.table.now.slot h in
-      let raw = c.in-Ok.ensures.raw s (c.loop-i.invariant.reads.state ∙ told) (c.loop-i.invariant.under s told under) ∙ ap (λ (k : ℕ). raw_reloc (held_package s k h) i) c.loop-i.invariant.slot in
+      let raw = c.in-Ok.ensures.answer s (c.loop-i.invariant.reads.state ∙ told) (c.loop-i.invariant.under s told under) ∙ ap (λ (k : ℕ). raw_reloc (held_package s k h) i) c.loop-i.invariant.slot in
       let result = rw (c.as_ref.ensures.value) at c.in-Ok-check_reloc.ensures in
       reloc_after b h c.loop-i.before i c.in-Ok.raw c.in-Ok-field_raw.field c.in-Ok-check_reloc.reloc raw result;
   reads = reads_reads _ _ _ (reads_reads _ _ _ c.loop-i.invariant.reads c.reloc_raw.ensures.reads) c.field_raw.ensures.reads;
-  fault = c.in-Ok-field_raw.ensures.no_fault ∙ c.in-Ok.ensures.no_fault ∙ c.loop-i.invariant.fault;
+  fault = c.in-Ok-field_raw.ensures.faults ∙ c.in-Ok.ensures.faults ∙ c.loop-i.invariant.fault;
 }
 
 pub returns-clause-answer : goal.returns-clause-answer

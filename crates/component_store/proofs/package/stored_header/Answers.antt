@@ -6,5 +6,5 @@ use Rattle.component_store.proofs.package.stored_header.Goals as goal
 
 pub returns-in-Err-clause-answer : goal.returns-in-Err-clause-answer
 returns-in-Err-clause-answer g c = λ e s told keeps.
-    let read = c.in-Ok.ensures.ok s told keeps in
+    let read = c.in-Ok.ensures.answer s told keeps in
     ap (λ (raw : List ℕ). option_map Package (header_fault raw c.args.size)) (sym read) ∙ ap (option_map Package) (sym c.in-Err.ensures.fault)

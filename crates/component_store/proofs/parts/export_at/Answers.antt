@@ -11,8 +11,8 @@ use Rattle.component_store.specs.Sets.{header_at}
 use Rattle.component_store.proofs.PartLemmas.{IsHeld, held_component, export_alone}
 use Rattle.component_store.proofs.parts.export_at.Goals as goal
 
-pub returns-clause-export : goal.returns-clause-export
-returns-clause-export g c = λ s told holds comp component.
+pub returns-clause-answer : goal.returns-clause-answer
+returns-clause-answer g c = λ s told holds comp component.
     let h : Header = header_at c.args.set.now c.args.k in
     let i : ℕ = c.args.i in
     let slot : ℕ = get_or c.args.set.now.slots.slots c.args.k 0 in
@@ -20,7 +20,7 @@ returns-clause-export g c = λ s told holds comp component.
     let held : IsHeld s slot h comp = held_component s c.args.set.now c.args.k comp c.requires.set c.reader_of-table.ensures.rooms c.requires.component holds component in
     let b : List ℕ = held_package s slot h in
     let under : IsUnder s c.reader_of-table.result h = record { keeps = c.reader_of-table.ensures.keeps s; header = held.header ∙ ap (λ (j : ℕ). header_of (held_package s j h)) (sym own) } in
-    let raw : c.in_ok-raw.raw ≡ raw_export b i = c.in_ok-raw.ensures.raw s told under ∙ ap (λ (j : ℕ). raw_export (held_package s j h) i) own in
+    let raw : c.in_ok-raw.raw ≡ raw_export b i = c.in_ok-raw.ensures.answer s told under ∙ ap (λ (j : ℕ). raw_export (held_package s j h) i) own in
     let asked : i < h.exports = c.requires.export in
     let count : h.exports ≡ (header_of b).exports = ap (λ (k : Header). k.exports) held.header in
     let below : i < (header_of b).exports = omega arith in

@@ -23,7 +23,7 @@ loop-at-preserved g c = record {
   slot = c.read.ensures.slot ∙ c.loop-at.invariant.slot;
   keeps = λ s told. c.in_ok-read.ensures.keeps s (c.loop-at.invariant.reads.state ∙ told) (c.loop-at.invariant.keeps s told);
   bytes = λ s told.
-      let read = c.in_ok-read.ensures.ok s (c.loop-at.invariant.reads.state ∙ told) (c.loop-at.invariant.keeps s told) in
+      let read = c.in_ok-read.ensures.answer s (c.loop-at.invariant.reads.state ∙ told) (c.loop-at.invariant.keeps s told) in
       let at : ℕ = c.loop-at.at in
       let e : ℕ = c.min-end.result in
       let into : List ℕ = c.loop-at.into in
@@ -40,11 +40,11 @@ loop-at-preserved g c = record {
       take-put_mid at (e - at) into c.read.new.into e (omega arith) (omega arith)
       ∙ ap₂ (λ (x y : List ℕ). x ++ y) (c.loop-at.invariant.bytes s told) here ∙ sym (take_further d at (e - at)) ∙ ap (λ (k : ℕ). take k d) next;
   reads = reads_reads _ _ _ c.loop-at.invariant.reads c.read.ensures.reads;
-  fault = c.in_ok-read.ensures.no_fault ∙ c.loop-at.invariant.fault;
+  fault = c.in_ok-read.ensures.faults ∙ c.loop-at.invariant.fault;
 }
 
-pub returns-clause-bytes : goal.returns-clause-bytes
-returns-clause-bytes g c = λ s told holds comp component.
+pub returns-clause-answer : goal.returns-clause-answer
+returns-clause-answer g c = λ s told holds comp component.
     let h : Header = header_at c.args.set.now c.args.k in
     let slot : ℕ = get_or c.args.set.now.slots.slots c.args.k 0 in
     let n : ℕ = length c.args.into.now in

@@ -11,8 +11,8 @@ use Rattle.component_store.specs.Sets.{header_at}
 use Rattle.component_store.proofs.PartLemmas.{IsHeld, held_component, reloc_alone, no_field}
 use Rattle.component_store.proofs.parts.read_reloc.Goals as goal
 
-pub returns-clause-reloc : goal.returns-clause-reloc
-returns-clause-reloc g c = λ s told keeps holds comp component.
+pub returns-clause-answer : goal.returns-clause-answer
+returns-clause-answer g c = λ s told keeps holds comp component.
     let h : Header = header_at c.args.set.now c.args.k in
     let i : ℕ = c.args.i in
     let slot : ℕ = get_or c.args.set.now.slots.slots c.args.k 0 in
@@ -20,7 +20,7 @@ returns-clause-reloc g c = λ s told keeps holds comp component.
     let held : IsHeld s slot h comp = held_component s c.args.set.now c.args.k comp c.requires.set c.turn_to.ensures.rooms c.requires.component holds component in
     let b : List ℕ = held_package s slot h in
     let under : IsUnder s c.turn_to.new.table h = record { keeps = c.turn_to.ensures.keeps s keeps; header = held.header ∙ ap (λ (j : ℕ). header_of (held_package s j h)) (sym own) } in
-    let raw : c.in_ok-raw.raw ≡ raw_reloc b i = c.in_ok-raw.ensures.raw s told under ∙ ap (λ (j : ℕ). raw_reloc (held_package s j h) i) own in
+    let raw : c.in_ok-raw.raw ≡ raw_reloc b i = c.in_ok-raw.ensures.answer s told under ∙ ap (λ (j : ℕ). raw_reloc (held_package s j h) i) own in
     let asked : i < h.relocs = c.requires.reloc in
     let count : h.relocs ≡ (header_of b).relocs = ap (λ (k : Header). k.relocs) held.header in
     let below : i < (header_of b).relocs = omega arith in

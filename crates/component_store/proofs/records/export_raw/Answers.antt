@@ -5,12 +5,12 @@ use Rattle.component_store.specs.Reader.{held_package}
 use Rattle.component_store.proofs.HeldLemmas.{held_slice}
 use Rattle.component_store.proofs.records.export_raw.Goals as goal
 
-pub returns-clause-raw : goal.returns-clause-raw
-returns-clause-raw g c = λ s told under.
+pub returns-clause-answer : goal.returns-clause-answer
+returns-clause-answer g c = λ s told under.
     let h : Header = c.args.h.now in
     let slot : ℕ = c.args.table.now.slot in
     let b : List ℕ = held_package s slot h in
     let at : ℕ = exports_at h + 6 * c.args.i in
     let inside = c.requires.inside in
-    let read = c.in_ok-read.ensures.ok s told under.keeps in
+    let read = c.in_ok-read.ensures.answer s told under.keeps in
     read ∙ held_slice s slot (total_of h) at 6 (omega arith) ∙ ap (λ (k : Header). slice_range b (exports_at k + 6 * c.args.i) (exports_at k + 6 * c.args.i + 6)) under.header

@@ -8,8 +8,8 @@ use Rattle.component_store.specs.Reader.{held_package}
 use Rattle.component_store.proofs.HeldLemmas.{held_slice}
 use Rattle.component_store.proofs.records.field_raw.Goals as goal
 
-pub returns-in_ok-read-clause-field : goal.returns-in_ok-read-clause-field
-returns-in_ok-read-clause-field g c = λ s told under.
+pub returns-in_ok-read-clause-answer : goal.returns-in_ok-read-clause-answer
+returns-in_ok-read-clause-answer g c = λ s told under.
     let h : Header = c.args.h.now in
     let slot : ℕ = c.args.fields.now.slot in
     let at : ℕ = c.in-Some.at in
@@ -18,5 +18,5 @@ returns-in_ok-read-clause-field g c = λ s told under.
     let wide : w ≤ 4 = search rules in
     let inside : at + w ≤ total_of h = search rules in
     let count : length (take w (replicate 4 0)) ≡ w = length-take-le w (replicate 4 0) wide in
-    let read : c.read.new.into ≡ slice_range b at (at + w) = c.in_ok-read.ensures.ok s told under.keeps ∙ ap (λ (n : ℕ). take n (drop at (slot_at s.ext slot))) count ∙ held_slice s slot (total_of h) at w inside in
+    let read : c.read.new.into ≡ slice_range b at (at + w) = c.in_ok-read.ensures.answer s told under.keeps ∙ ap (λ (n : ℕ). take n (drop at (slot_at s.ext slot))) count ∙ held_slice s slot (total_of h) at w inside in
     ap₂ (λ (x y : List ℕ). x ++ y) read (drop-replicate w 4 0) ∙ ap (spanned_field b) c.in-Some.ensures

@@ -16,7 +16,7 @@ returns-in_ok-part_bytes-clause-bytes g c = λ s told holds comp here j lt.
     let a : ℕ = low - c.args.base in
     let n : ℕ = high - c.args.base - a in
     copied part c.args.into.now c.part_bytes.new.into c.args.place c.args.base low high _ (length_mid a n c.args.into.now (omega (arith, wide, c.min-high.ensures, c.max-low.ensures, c.if-low-high.true))) wide
-    c.max-low.ensures is_high c.if-low-high.true (c.in_ok-part_bytes.ensures.bytes s told holds comp here) j lt
+    c.max-low.ensures is_high c.if-low-high.true (c.in_ok-part_bytes.ensures.answer s told holds comp here) j lt
 
 pub returns-else-low-high-clause-bytes : goal.returns-else-low-high-clause-bytes
 returns-else-low-high-clause-bytes g c = λ s told holds comp here j lt.

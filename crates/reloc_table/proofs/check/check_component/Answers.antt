@@ -36,7 +36,7 @@ returns-in-Err-clause-answer g c = λ fine s told holds table tells comp here.
     let f : Site → Option Cause = cause_with (address_in table) set in
     let now = c.loop-index.invariant.reads.state ∙ told in
     let plan : IsPlan (rooms_of set) c.args.plan.now = subst (λ (r : List Room). IsPlan r c.args.plan.now) (sym (rooms_are s c.args.set.now c.requires.set c.rooms.ensures holds)) c.requires.plan.plan in
-    let reloc = c.in-Ok.ensures.reloc s now (c.loop-index.invariant.keeps s told holds) holds comp here in
+    let reloc = c.in-Ok.ensures.answer s now (c.loop-index.invariant.keeps s told holds) holds comp here in
     let split = site_at k comp i c.in-Ok.reloc reloc in
     let x : Site = record { component = k; index = i; reloc = c.in-Ok.reloc } in
     let said = c.in-Err.ensures.answer fine s (c.read_reloc.ensures.reads.state ∙ now) set table plan tells in
@@ -57,7 +57,7 @@ loop-index-preserved g c = record {
       let f : Site → Option Cause = cause_with (address_in table) set in
       let now = c.loop-index.invariant.reads.state ∙ told in
       let plan : IsPlan (rooms_of set) c.args.plan.now = subst (λ (r : List Room). IsPlan r c.args.plan.now) (sym (rooms_are s c.args.set.now c.requires.set c.rooms.ensures holds)) c.requires.plan.plan in
-      let reloc = c.in-Ok.ensures.reloc s now (c.loop-index.invariant.keeps s told holds) holds comp here in
+      let reloc = c.in-Ok.ensures.answer s now (c.loop-index.invariant.keeps s told holds) holds comp here in
       let x : Site = record { component = k; index = i; reloc = c.in-Ok.reloc } in
       let said = c.in-Ok-check_site.ensures.answer refl s (c.read_reloc.ensures.reads.state ∙ now) set table plan tells in
       c.loop-index.invariant.free s told holds table tells comp here ∙ passes_on f x (drop i (sites_in k comp)) (drop (i + 1) (sites_in k comp)) (site_at k comp i c.in-Ok.reloc reloc) said;

@@ -26,7 +26,7 @@ returns-then-reloc-self-clause-site g c = λ s told keeps holds.
     let me = c.args.self.now in
     let lt : me.component < set.slots.manifest.count = omega (arith, c.if-k-set.false) in
     let comp = component_at s set me.component c.requires.set c.rooms.ensures lt in
-    rest_skip (set_in s set) me.in_init me.component me.index comp.it c.in-Ok.reloc comp.here (c.in-Ok.ensures.reloc s told keeps holds comp.it comp.here) (other_part c.in-Ok.reloc.in_init me.in_init c.if-reloc-self.true)
+    rest_skip (set_in s set) me.in_init me.component me.index comp.it c.in-Ok.reloc comp.here (c.in-Ok.ensures.answer s told keeps holds comp.it comp.here) (other_part c.in-Ok.reloc.in_init me.in_init c.if-reloc-self.true)
 
 pub returns-then-reloc-self-clause-keeps : goal.returns-then-reloc-self-clause-keeps
 returns-then-reloc-self-clause-keeps g c = λ s told keeps holds.
@@ -42,7 +42,7 @@ returns-clause-site g c = λ s told keeps holds.
     let me = c.args.self.now in
     let lt : me.component < set.slots.manifest.count = omega (arith, c.if-k-set.false) in
     let comp = component_at s set me.component c.requires.set c.rooms.ensures lt in
-    rest_site (set_in s set) me.in_init me.component me.index comp.it c.in-Ok.reloc comp.here (c.in-Ok.ensures.reloc s told keeps holds comp.it comp.here) (same_part c.in-Ok.reloc.in_init me.in_init c.if-reloc-self.false)
+    rest_site (set_in s set) me.in_init me.component me.index comp.it c.in-Ok.reloc comp.here (c.in-Ok.ensures.answer s told keeps holds comp.it comp.here) (same_part c.in-Ok.reloc.in_init me.in_init c.if-reloc-self.false)
 
 pub returns-clause-keeps : goal.returns-clause-keeps
 returns-clause-keeps g c = λ s told keeps holds.

@@ -7,7 +7,7 @@ returns-clause-cursor g c = λ whole s told holds comp component.
     let n : ℕ = c.min-size.result in
     let next : ℕ = c.args.self.now.next in
     let lent : length (take n c.args.self.now.window) ≡ n = search rules in
-    let read = c.in_ok-exports_at.ensures.exports s told holds comp component ∙ ap (λ (m : ℕ). slice_range comp.exports next (next + m)) lent in
+    let read = c.in_ok-exports_at.ensures.answer s told holds comp component ∙ ap (λ (m : ℕ). slice_range comp.exports next (next + m)) lent in
     let all = c.requires.of.count ∙ sym (c.exports_at.ensures.count s told holds comp component) in
     let size : length c.exports_at.new.into ≡ n = search rules in
     filled comp.exports c.exports_at.new.into _ next c.args.self.now.count n read size c.min-size.ensures all whole
