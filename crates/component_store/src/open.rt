@@ -35,9 +35,7 @@ fn check_digests<B: Board>(board: &mut B, m: &SlotManifest) -> Result<(), SetFau
 {
     for k in 0..m.manifest.count {
         let entry = &m.manifest.entries[k as usize];
-        let Ok(is_there) = check(board, m.slots[k as usize], entry.length, &entry.digest) else {
-            return Err(SetFault::Fault);
-        };
+        let is_there = check(board, m.slots[k as usize], entry.length, &entry.digest)?;
         if !is_there {
             return Err(SetFault::Missing(k));
         }
@@ -98,12 +96,7 @@ pub fn open_set<B: Board>(board: &mut B, m: &SlotManifest) -> Result<StoredSet, 
     ensures faults { FlashFaultsWhere (is_set_fault result) (B.view board.old)
         (B.view board.new) }
 {
-    match check_digests(board, m) {
-        Ok(()) => {}
-        Err(fault) => return Err(fault),
-    }
-    match check_packages(board, m) {
-        Ok(headers) => Ok(StoredSet { slots: *m, headers }),
-        Err(fault) => Err(fault),
-    }
+    check_digests(board, m)?;
+    let headers = check_packages(board, m)?;
+    Ok(StoredSet { slots: *m, headers })
 }

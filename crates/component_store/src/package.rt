@@ -73,13 +73,9 @@ fn stored_header<B: Board>(
     ensures faults { FlashFaultsWhere (is_fault result) (B.view board.old) (B.view board.new) }
 {
     let mut raw = [0; 32];
-    let Ok(()) = table.read(board, 0, &mut raw) else {
-        return Err(StoreFault::Fault);
-    };
-    match read_header(&raw, size as u32) {
-        Ok(header) => Ok(header),
-        Err(fault) => Err(StoreFault::Package(fault)),
-    }
+    table.read(board, 0, &mut raw)?;
+    let header = read_header(&raw, size as u32)?;
+    Ok(header)
 }
 
 // What is wrong with the exports of a slot's package.
@@ -102,13 +98,9 @@ fn check_exports<B: Board>(
 {
     let mut before = None;
     for i in 0..h.exports {
-        let Ok(raw) = export_raw(board, table, h, i) else {
-            return Err(StoreFault::Fault);
-        };
-        match check_export(h, before, i, &raw) {
-            Ok(export) => before = Some(export.symbol),
-            Err(fault) => return Err(StoreFault::Package(fault)),
-        }
+        let raw = export_raw(board, table, h, i)?;
+        let export = check_export(h, before, i, &raw)?;
+        before = Some(export.symbol);
     }
     Ok(())
 }
@@ -132,16 +124,10 @@ fn check_relocs<B: Board>(
     let mut fields = SlotReader::new(table.slot);
     let mut before = None;
     for i in 0..h.relocs {
-        let Ok(raw) = reloc_raw(board, table, h, i) else {
-            return Err(StoreFault::Fault);
-        };
-        let Ok(field) = field_raw(board, &mut fields, h, &raw) else {
-            return Err(StoreFault::Fault);
-        };
-        match check_reloc(h, before.as_ref(), i, &raw, &field) {
-            Ok(reloc) => before = Some(reloc),
-            Err(fault) => return Err(StoreFault::Package(fault)),
-        }
+        let raw = reloc_raw(board, table, h, i)?;
+        let field = field_raw(board, &mut fields, h, &raw)?;
+        let reloc = check_reloc(h, before.as_ref(), i, &raw, &field)?;
+        before = Some(reloc);
     }
     Ok(())
 }
@@ -168,14 +154,9 @@ fn check_records<B: Board>(
     ensures reads { Reads (B.view board.old) (B.view board.new) }
     ensures faults { FlashFaultsWhere (is_fault result) (B.view board.old) (B.view board.new) }
 {
-    match check_exports(board, table, h) {
-        Ok(()) => {}
-        Err(fault) => return Err(fault),
-    }
-    match check_relocs(board, table, h) {
-        Ok(()) => Ok(()),
-        Err(fault) => Err(fault),
-    }
+    check_exports(board, table, h)?;
+    check_relocs(board, table, h)?;
+    Ok(())
 }
 
 /// The header of the entry's package in a slot, which is read where it lies, each of its pages three times at most.
@@ -198,14 +179,8 @@ pub fn check_package<B: Board>(board: &mut B, slot: u8, e: &Entry) -> Result<Hea
     ensures faults { FlashFaultsWhere (is_fault result) (B.view board.old) (B.view board.new) }
 {
     let mut table = SlotReader::new(slot);
-    let header = match stored_header(board, &mut table, e.length) {
-        Ok(header) => header,
-        Err(fault) => return Err(fault),
-    };
-    match check_records(board, &mut table, &header) {
-        Ok(()) => {}
-        Err(fault) => return Err(fault),
-    }
+    let header = stored_header(board, &mut table, e.length)?;
+    check_records(board, &mut table, &header)?;
     if !is_of(e, &header) {
         return Err(StoreFault::Identity);
     }

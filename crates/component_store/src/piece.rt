@@ -84,9 +84,7 @@ pub fn piece_differs<B: Board>(
         return Err(fault);
     }
     let mut there = [0; 256];
-    let Ok(()) = board.ext_read(page_of(slot, page), &mut there) else {
-        return Err(StoreFault::Fault);
-    };
+    board.ext_read(page_of(slot, page), &mut there)?;
     Ok(!is_same(&there, &filled(bytes)))
 }
 
@@ -116,8 +114,6 @@ pub fn put_piece<B: Board>(
     if let Some(fault) = piece_fault(size, page, bytes.len()) {
         return Err(fault);
     }
-    let Ok(()) = board.ext_program(page_of(slot, page), &filled(bytes)) else {
-        return Err(StoreFault::Fault);
-    };
+    board.ext_program(page_of(slot, page), &filled(bytes))?;
     Ok(())
 }

@@ -34,8 +34,8 @@ check-requires-clause-most g c =
     let at = is_entry m k c.requires room slot_room c.loop-k-test.true in
     at.entry.most
 
-pub returns-in_default-clause-reads : goal.returns-in_default-clause-reads
-returns-in_default-clause-reads g c = reads_reads _ _ _ c.loop-k.invariant.reads c.check.ensures.reads
+pub returns-in_err-is_there-clause-reads : goal.returns-in_err-is_there-clause-reads
+returns-in_err-is_there-clause-reads g c = reads_reads _ _ _ c.loop-k.invariant.reads c.check.ensures.reads
 
 pub returns-then-not-is_there-clause-answer : goal.returns-then-not-is_there-clause-answer
 returns-then-not-is_there-clause-answer g c = λ e s told.
@@ -44,7 +44,7 @@ returns-then-not-is_there-clause-answer g c = λ e s told.
     let slot_room : length m.slots ≡ 16 = search rules in
     let k : ℕ = c.loop-k.k in
     let at = is_entry m k c.requires room slot_room c.loop-k-test.true in
-    let missing = missing_is s (stored_of m) k (entry_of m k) c.in-Ok.is_there at.here at.slot (c.in-Ok.ensures.answer s (c.loop-k.invariant.reads.state ∙ told)) in
+    let missing = missing_is s (stored_of m) k (entry_of m k) c.in_ok-is_there.is_there at.here at.slot (c.in_ok-is_there.ensures.answer s (c.loop-k.invariant.reads.state ∙ told)) in
     let here = missing ∙ ap (λ (b : Bool). cond (not b) (Some (Missing k)) None) c.if-not-is_there.true in
     first_fault-at (missing_at (slots_of s.ext) (stored_of m)) m.manifest.count k (Missing k) c.loop-k-test.true (c.loop-k.invariant.none s told) here
 
@@ -59,9 +59,9 @@ loop-k-preserved g c = record {
       let slot_room : length m.slots ≡ 16 = search rules in
       let k : ℕ = c.loop-k.k in
       let at = is_entry m k c.requires room slot_room c.loop-k-test.true in
-      let missing = missing_is s (stored_of m) k (entry_of m k) c.in-Ok.is_there at.here at.slot (c.in-Ok.ensures.answer s (c.loop-k.invariant.reads.state ∙ told)) in
+      let missing = missing_is s (stored_of m) k (entry_of m k) c.in_ok-is_there.is_there at.here at.slot (c.in_ok-is_there.ensures.answer s (c.loop-k.invariant.reads.state ∙ told)) in
       let here = missing ∙ ap (λ (b : Bool). cond (not b) (Some (Missing k)) None) c.if-not-is_there.false in
       first_fault-more (missing_at (slots_of s.ext) (stored_of m)) k (c.loop-k.invariant.none s told) here;
   reads = reads_reads _ _ _ c.loop-k.invariant.reads c.check.ensures.reads;
-  fault = c.in-Ok.ensures.faults ∙ c.loop-k.invariant.fault;
+  fault = c.in_ok-is_there.ensures.faults ∙ c.loop-k.invariant.fault;
 }

@@ -7,8 +7,8 @@ use Rattle.component_store.specs.Pieces.{piece_fault, IsPiece}
 use Rattle.component_store.proofs.SlotBytes.{piece_put, page_below}
 use Rattle.component_store.proofs.piece.put_piece.Goals as goal
 
-pub returns-in_default-ext_program-clause-programs : goal.returns-in_default-ext_program-clause-programs
-returns-in_default-ext_program-clause-programs g c =
+pub returns-in_err-ext_program-clause-programs : goal.returns-in_err-ext_program-clause-programs
+returns-in_err-ext_program-clause-programs g c =
     rw (← c.page_of.ensures.page) (programs_needed always (IsPiece c.args.size c.args.page (length c.args.bytes.now)) _ _ _ (λ s told. sym c.piece_fault.ensures ∙ c.in_default.is) c.ext_program.ensures.programs)
 
 pub returns-clause-programs : goal.returns-clause-programs
@@ -18,7 +18,7 @@ returns-clause-programs g c =
 pub returns-clause-slots : goal.returns-clause-slots
 returns-clause-slots g c = λ s x told after.
     let sizes = (g.B.Board.view c.args.board.now).sizes s told in
-    let here = c.in-Ok.ensures.ok.state s told in
+    let here = c.in_ok-ext_program.ensures.ok.state s told in
     let fine : piece_fault c.args.size c.args.page (length c.args.bytes.now) ≡ None = sym c.piece_fault.ensures ∙ c.in_default.is in
     let page : c.args.page < 39 = page_below c.args.size c.args.page (length c.args.bytes.now) c.requires.most fine in
     let is : x ≡ record s { ext = set s.ext c.page_of.result c.filled.result } = same_Some x _ (sym after ∙ here) in
