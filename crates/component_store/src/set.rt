@@ -38,10 +38,7 @@ impl fmt::Display for StoreFault {
             StoreFault::Fault => write!(f, "a call of the board failed"),
             StoreFault::Page => write!(f, "the package has no such page"),
             StoreFault::PieceLength => write!(f, "the piece has another length than its page"),
-            StoreFault::Package(fault) => {
-                let number = fault.number();
-                write!(f, "the package has fault {number}")
-            }
+            StoreFault::Package(fault) => write!(f, "the package is bad: {fault}"),
             StoreFault::Identity => { write!(f, "the package is of another component or version") }
         }
     }
