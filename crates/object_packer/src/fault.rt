@@ -4,6 +4,7 @@ ghost use Rattle.std.specs.Prelude.{◌≡◌};
 ghost use Rattle.object_packer.specs.declared.fault.PackFault.TheVariants.{Memory};
 
 use std::alloc::AllocError;
+use std::error::Error;
 use std::fmt;
 
 /// The first fault of an object that was read but can't be packed. Sections, symbols and the entries of
@@ -92,3 +93,5 @@ impl fmt::Display for PackFault {
         }
     }
 }
+
+impl Error for PackFault {}
