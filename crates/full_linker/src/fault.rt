@@ -4,6 +4,8 @@ ghost use Rattle.std.specs.Prelude.{◌≡◌};
 ghost use Rattle.full_linker.specs.declared.fault.LinkFault.TheVariants.{Memory};
 
 use avr_reloc::RangeFault;
+use component_package::NoMemory;
+use layout_plan::PlanFault;
 use std::alloc::{AllocError, AllocFailed};
 use std::error::Error;
 use std::fmt;
@@ -53,8 +55,8 @@ impl LinkFault {
 impl fmt::Display for LinkFault {
     fn fmt<W: fmt::Write>(&self, f: &mut fmt::Formatter<W>) -> fmt::Result {
         match self {
-            LinkFault::Flash(total) => write!(f, "code and data have {total} bytes"),
-            LinkFault::Ram(total) => write!(f, "data and bss have {total} bytes"),
+            LinkFault::Flash(total) => write!(f, "{}", PlanFault::Flash(*total)),
+            LinkFault::Ram(total) => write!(f, "{}", PlanFault::Ram(*total)),
             LinkFault::Symbols(count) => write!(f, "there are {count} symbols"),
             LinkFault::Relocations(count) => write!(f, "there are {count} relocations"),
             LinkFault::Duplicate(symbol, first, second) => {
@@ -64,19 +66,10 @@ impl fmt::Display for LinkFault {
                 f,
                 "relocation {index} of component {component} refers to symbol {symbol}, which is undefined"
             ),
-            LinkFault::Range(component, index, RangeFault::Odd) => {
-                write!(
-                    f,
-                    "relocation {index} of component {component} has an odd value"
-                )
+            LinkFault::Range(component, index, fault) => {
+                write!(f, "relocation {index} of component {component}: {fault}")
             }
-            LinkFault::Range(component, index, RangeFault::TooFar(value)) => {
-                write!(
-                    f,
-                    "relocation {index} of component {component} has no room for {value}"
-                )
-            }
-            LinkFault::Memory => write!(f, "there is no memory"),
+            LinkFault::Memory => write!(f, "{}", NoMemory),
         }
     }
 }

@@ -490,7 +490,7 @@ fn fault_numbers_and_words(rt: HostRuntime) -> Result<(), Fail> {
         ),
         (
             Range(1, 2, RangeFault::Odd),
-            "relocation 2 of component 1 has an odd value",
+            "relocation 2 of component 1: the value is odd",
         ),
         (Memory, "there is no memory"),
     ];
@@ -503,7 +503,7 @@ fn fault_numbers_and_words(rt: HostRuntime) -> Result<(), Fail> {
     let shown = format!(in rt.alloc(); "{far}")?;
     assert_eq!(rt;
         shown.as_str(),
-        "relocation 4 of component 3 has no room for -4100"
+        "relocation 4 of component 3: the field has no room for -4100"
     );
     Ok(())
 }
