@@ -15,6 +15,8 @@ ghost use Rattle.boot_loader.specs.Boots.{booted, boot_pages, boot_programs, Has
 use component_package::areas::{IMAGE_PAGES, STAGED};
 use flash_pages::{Board, Failed};
 use install_journal::{JournalFault, finish, read_state};
+use std::error::Error;
+use std::fmt;
 
 /// Why no release is started.
 #[derive(Clone, Copy, Debug, PartialEq, Eq)]
@@ -24,6 +26,18 @@ pub enum BootFault {
     /// The board isn't formatted, or says of no side that it is to boot.
     Unformatted,
 }
+
+/// Why, in the words of the journal.
+impl fmt::Display for BootFault {
+    fn fmt<W: fmt::Write>(&self, f: &mut fmt::Formatter<W>) -> fmt::Result {
+        match self {
+            BootFault::Fault => write!(f, "{}", JournalFault::Fault),
+            BootFault::Unformatted => write!(f, "{}", JournalFault::Unformatted),
+        }
+    }
+}
+
+impl Error for BootFault {}
 
 fn is_same(a: &[u8; 256], b: &[u8; 256]) -> bool
     ensures { IsTrue result ↔ (a.now ≡ b.now) }

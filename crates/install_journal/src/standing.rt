@@ -15,6 +15,8 @@ use component_package::areas::{MANIFEST_A, MANIFEST_B};
 use component_package::{SlotManifest, read_slot_pages};
 use external_flash::{Gate, gate_is_open};
 use flash_pages::{Board, Failed};
+use std::error::Error;
+use std::fmt;
 
 /// What a mote's gates and sides say.
 #[derive(Clone, Copy, Debug, PartialEq, Eq)]
@@ -43,6 +45,18 @@ pub enum JournalFault {
     /// The gate Fmt is closed, both Go gates are open, or the chosen side's pages are no stored manifest.
     Unformatted,
 }
+
+/// Why, in words.
+impl fmt::Display for JournalFault {
+    fn fmt<W: fmt::Write>(&self, f: &mut fmt::Formatter<W>) -> fmt::Result {
+        match self {
+            JournalFault::Fault => write!(f, "{}", Failed),
+            JournalFault::Unformatted => write!(f, "the board is not formatted"),
+        }
+    }
+}
+
+impl Error for JournalFault {}
 
 // Which side is chosen, and whether a commit stands.
 #[derive(Clone, Copy)]
