@@ -2,6 +2,10 @@
 
 ghost use Rattle.std.specs.Prelude.{◌≡◌};
 
+use flash_pages::Failed;
+use std::error::Error;
+use std::fmt;
+
 /// Why a call gives no answer. Components are counted from 0.
 #[derive(Clone, Copy, Debug, PartialEq, Eq)]
 pub enum MergeFault {
@@ -27,3 +31,18 @@ impl MergeFault {
         }
     }
 }
+
+/// Why, in words, with the values.
+impl fmt::Display for MergeFault {
+    fn fmt<W: fmt::Write>(&self, f: &mut fmt::Formatter<W>) -> fmt::Result {
+        match self {
+            MergeFault::Fault => write!(f, "{}", Failed),
+            MergeFault::Symbols(count) => write!(f, "there are {count} symbols"),
+            MergeFault::Duplicate(symbol, first, second) => {
+                write!(f, "components {first} and {second} define symbol {symbol}")
+            }
+        }
+    }
+}
+
+impl Error for MergeFault {}
