@@ -12,7 +12,7 @@ fn read_set(rt: &HostRuntime, paths: &[&str]) -> Result<Vec<Bytes>> {
     for path in paths {
         let bytes = fs::read(rt, *path)?;
         if let Err(fault) = read_package(&bytes) {
-            bail!("{path} is no package: fault {}", fault.number());
+            bail!("{path}: {fault}");
         }
         set.push(Bytes::of(bytes))?;
     }

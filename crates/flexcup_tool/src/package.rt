@@ -1,7 +1,7 @@
 //! `package`: what a package has.
 
 use crate::input::read_input;
-use anyhow::{Result, bail};
+use anyhow::Result;
 use avr_reloc::RelocType;
 use component_package::{Export, PackageView, Place, Reloc, read_package};
 use std::process::ExitCode;
@@ -128,10 +128,7 @@ fn print_package<W: io::Write>(out: &mut W, package: &PackageView<'_>) -> io::Re
 /// Prints the parts, exports and relocations of a package.
 pub(crate) fn show(rt: &HostRuntime, path: Option<&str>) -> Result<ExitCode> {
     let bytes = read_input(rt, path)?;
-    let package = match read_package(&bytes) {
-        Ok(package) => package,
-        Err(fault) => bail!("this is no package: fault {}", fault.number()),
-    };
+    let package = read_package(&bytes)?;
     let mut out = io::BufWriter::new(rt.alloc(), rt.stdout())?;
     print_package(&mut out, &package)?;
     io::Write::flush(&mut out)?;
