@@ -1,10 +1,9 @@
 -- What BOOT does.
-use Rattle.std.proofs.Common.{◌≡◌, ◌≢◌, ℕ, ◌≤◌, Bool, true, false, refl, sym, ap, ◌∙◌, subst, arith}
+use Rattle.std.proofs.Common.{ℕ, ◌≤◌, Bool, true, false, sym, ap, ◌∙◌, arith}
 use Rattle.flash_pages.specs.State.{State}
 use Rattle.flash_pages.specs.Board.{View}
 use Rattle.flash_pages.specs.Moments.{LeavesOnly}
 use Rattle.flash_pages.proofs.Runs.{weaker}
-use Rattle.component_package.specs.declared.answer.Answer.{Answer}
 use Rattle.component_package.specs.declared.answer.Answer.TheVariants.{Booted}
 use Rattle.component_package.specs.mote.Sides.{is_pending}
 use Rattle.component_package.specs.mote.Machine.{Mote, boot_frame}

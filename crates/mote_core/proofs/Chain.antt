@@ -1,18 +1,17 @@
 -- The steps of LINK, one behind another.
-use Rattle.std.proofs.Common.{◌≡◌, ◌⊎◌, inl, inr, ⊎_elim, ℕ, ◌+◌, ◌≤◌, Bool, true, false, cond, ◌&&◌, List, Option, Some, None, is_some, refl, sym, ap, ◌∙◌, subst, arith}
+use Rattle.std.proofs.Common.{◌≡◌, inl, inr, ⊎_elim, ℕ, Bool, true, false, cond, ◌&&◌, List, Option, Some, None, is_some, refl, sym, ap, ◌∙◌, subst, arith}
 use Rattle.std.proofs.lemmas.Bool.{false≢true}
 use Rattle.flash_pages.specs.State.{State}
-use Rattle.flash_pages.specs.Board.{View, Reads}
+use Rattle.flash_pages.specs.Board.{View}
 use Rattle.flash_pages.specs.Moments.{LeavesOnly}
 use Rattle.flash_pages.proofs.Runs.{at_end}
 use Rattle.component_package.specs.declared.answer.Answer.{Answer}
 use Rattle.component_package.specs.declared.answer.Answer.TheVariants as answers
 use Rattle.component_package.specs.declared.manifest.SlotManifest.{SlotManifest}
-use Rattle.component_package.specs.packages.Component.{Component}
-use Rattle.component_package.specs.packages.Manifest.{StoredRelease, Stores, stored_bytes, stored_of}
+use Rattle.component_package.specs.packages.Manifest.{StoredRelease, stored_of}
 use Rattle.component_package.specs.link.Link.{Cause, FlashFull, RamFull, Symbols, Relocations, Duplicate, Undefined, Range, link_cause}
-use Rattle.component_package.specs.mote.Store.{SetFault, Missing, BadPackage, slots_of, set_fault, components_of}
-use Rattle.component_package.specs.mote.Sides.{Parts, sym as sym_gate, rel, img, chosen_side, is_pending}
+use Rattle.component_package.specs.mote.Store.{SetFault, set_fault, components_of}
+use Rattle.component_package.specs.mote.Sides.{sym as sym_gate, rel, img, chosen_side}
 use Rattle.component_package.specs.mote.Headline.{StandsFor}
 use Rattle.component_package.specs.mote.Machine.{Mote, Step as MachineStep, step, refuses, link_incoming, link_held, link_set, cause_answer}
 use Rattle.component_store.specs.declared.set.StoredSet.{StoredSet}
@@ -20,11 +19,11 @@ use Rattle.component_store.specs.Sets.{HoldsSet}
 use Rattle.mote_laws.specs.Runs.{is_refusal}
 use Rattle.install_journal.specs.declared.standing.Standing.{Standing}
 use Rattle.install_journal.specs.Steps.{parts, Stands}
-use Rattle.install_journal.specs.Standing.{IsStanding, IsOfMote}
+use Rattle.install_journal.specs.Standing.{IsStanding}
 use Rattle.symbol_merge.specs.Stored.{set_in}
 use Rattle.mote_core.specs.Frames.{link_frame}
 use Rattle.mote_core.specs.Serving.{link_pages, Kept, Serves, IsServed, is_late_cause}
-use Rattle.mote_core.specs.Links.{IsLinking, IsEarlyFree, Refuses, Gates, Goes, Flags, IsStagedFor, Refused, Links, Counts}
+use Rattle.mote_core.specs.Links.{IsLinking, IsEarlyFree, Refuses, Goes, Flags, IsStagedFor, Refused, Links}
 use Rattle.mote_core.proofs.Causes.{IsLateOrDuplicate, late_cause}
 use Rattle.mote_core.proofs.Works.{first_part}
 use Rattle.mote_core.proofs.Rows.{resting_row}

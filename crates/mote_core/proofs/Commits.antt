@@ -1,5 +1,5 @@
 -- What ABORT and COMMIT do.
-use Rattle.std.proofs.Common.{◌≡◌, ◌⊎◌, inl, inr, ⊎_elim, ℕ, true, false, refl, sym, ap, ◌∙◌, subst, arith, Some}
+use Rattle.std.proofs.Common.{◌≡◌, ⊎_elim, ℕ, true, false, refl, sym, ap, ◌∙◌, subst, arith, Some}
 use Rattle.flash_pages.specs.State.{State, ext_pages}
 use Rattle.flash_pages.specs.Board.{View}
 use Rattle.flash_pages.specs.Moments.{LeavesOnly}
@@ -7,7 +7,7 @@ use Rattle.flash_pages.proofs.Runs.{weaker}
 use Rattle.component_package.specs.declared.answer.Answer.TheVariants.{Aborted, Committed}
 use Rattle.component_package.specs.packages.Manifest.{StoredRelease}
 use Rattle.component_package.specs.mote.Headline.{StandsFor}
-use Rattle.component_package.specs.mote.Machine.{Mote, Step as MachineStep, step}
+use Rattle.component_package.specs.mote.Machine.{Mote, Step as MachineStep}
 use Rattle.mote_laws.specs.Steps.{with_gate, other_go}
 use Rattle.mote_laws.specs.Stands.{commit_frame}
 use Rattle.session_laws.specs.Sessions.{shown}

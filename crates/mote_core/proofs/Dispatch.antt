@@ -1,19 +1,15 @@
 -- What serves a frame, by its type.
-use Rattle.std.proofs.Common.{◌≡◌, ℕ, ◌≤◌, List, [], refl, sym, ap, ◌∙◌, subst, arith}
-use Rattle.flash_pages.specs.State.{State}
+use Rattle.std.proofs.Common.{◌≡◌, sym, ap, ◌∙◌, subst}
 use Rattle.flash_pages.specs.Board.{View}
 use Rattle.flash_pages.specs.Moments.{LeavesOnly}
 use Rattle.component_package.specs.declared.answer.Answer.{Answer}
-use Rattle.component_package.specs.declared.answer.Answer.TheVariants as answers
 use Rattle.component_package.specs.mote.Frames.{Frame}
 use Rattle.component_package.specs.mote.Machine.{Mote, step, refuses, boot_frame}
 use Rattle.install_journal.specs.declared.standing.Standing.{Standing}
-use Rattle.install_journal.specs.Steps.{parts, Stands}
-use Rattle.install_journal.specs.Standing.{IsStanding, IsOfMote}
+use Rattle.install_journal.specs.Standing.{IsOfMote}
 use Rattle.session_laws.specs.Turns.{programs_of}
-use Rattle.mote_core.specs.Reading.{frame_of}
 use Rattle.mote_core.specs.Serving.{Serves, IsServed, LeavesWork, DoesWork}
-use Rattle.mote_core.specs.Frames.{LeavesKnown, DoesKnown, LeavesRead, DoesRead, status_frame}
+use Rattle.mote_core.specs.Frames.{LeavesKnown, DoesKnown, LeavesRead, DoesRead}
 use Rattle.mote_core.proofs.Works.{idle, served_so}
 
 -- a frame of this type with its payload is that frame

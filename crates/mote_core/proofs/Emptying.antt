@@ -1,13 +1,13 @@
 -- What is left of a board while it is emptied.
-use Rattle.std.proofs.Common.{◌≡◌, ◌⊎◌, inl, inr, zero, suc, ℕ, ◌+◌, ◌<◌, ◌≤◌, ◌==◌, Bool, true, false, cond, Some, ⊎_elim, List, [], ◌∷◌, ◌++◌, length, set, get_or, take, drop, replicate, slice_index, refl, sym as flip, ◌∙◌, ap, subst, arith, append_assoc}
+use Rattle.std.proofs.Common.{◌≡◌, ◌⊎◌, inl, inr, zero, suc, ℕ, ◌+◌, ◌<◌, Bool, true, false, cond, Some, ⊎_elim, List, [], ◌∷◌, ◌++◌, length, set, get_or, take, drop, replicate, slice_index, refl, sym as flip, ◌∙◌, ap, subst, arith, append_assoc}
 use Rattle.std.proofs.lemmas.Bool.Decides.{nat_tests}
 use Rattle.std.proofs.lemmas.List.{set_at, drop_more, drop_all, append-nil, length-replicate, replicate-append-replicate, take-append-drop}
-use Rattle.flash_pages.specs.State.{State, IsState, MayHold, Prog, Ext, always, with_page, with_sent, SendsPart}
+use Rattle.flash_pages.specs.State.{State, IsState, MayHold, Prog, Ext, always, with_page, SendsPart}
 use Rattle.flash_pages.specs.Board.{View, Programs, UsesLine}
 use Rattle.flash_pages.specs.Page.{blank_page}
 use Rattle.flash_pages.specs.Moments.{LeavesOnly}
 use Rattle.flash_pages.proofs.Runs.{programs, follows, weaker, sends}
-use Rattle.external_flash.specs.Gates.{IsShut, is_open, opens, opened, open_page, closed_page}
+use Rattle.external_flash.specs.Gates.{IsShut, opens, opened, open_page, closed_page}
 use Rattle.external_flash.specs.declared.Gate.TheVariants.{Fmt}
 use Rattle.component_package.specs.mote.Sound.{IsSound}
 use Rattle.component_package.specs.mote.Headline.{StandsFor}
@@ -16,7 +16,7 @@ use Rattle.mote_laws.specs.Steps.{with_gate}
 use Rattle.mote_laws.proofs.Formatted.{formatted_is_sound}
 use Rattle.mote_laws.proofs.Standing.{gates_stay}
 use Rattle.component_package.specs.mote.Sides.{Parts, parts_of}
-use Rattle.install_journal.specs.Steps.{parts, Stands}
+use Rattle.install_journal.specs.Steps.{parts}
 use Rattle.install_journal.proofs.Bridge.{parts_gate}
 use Rattle.mote_core.specs.Sending.{SendsBut}
 use Rattle.mote_core.specs.Format.{IsFormatted, HasForm, FormatLeaves, HasFormatted, Clears, OnlyProg, formatted_line, filled_to, cleared, blanked, emptied}

@@ -1,5 +1,5 @@
 -- END is the one frame that has the answer of an end.
-use Rattle.std.proofs.Common.{[], ◌≡◌, ◌⊎◌, inl, inr, ℕ, ◌≤◌, Bool, true, false, not, cond, eqb, ltb, List, length, drop, Option, Some, None, is_some, refl, slice_get, arith}
+use Rattle.std.proofs.Common.{[], ◌≡◌, ℕ, Bool, true, false, not, cond, eqb, ltb, List, length, drop, Option, Some, None, is_some, refl, slice_get, arith}
 use Rattle.std.specs.Prelude.{slice_index, slice_index_or, slice_range}
 use Rattle.std.proofs.lemmas.Bool.Decides.{nat_tests}
 use Rattle.component_package.specs.declared.answer.Answer.TheVariants.{Ended}
@@ -9,7 +9,7 @@ use Rattle.component_package.specs.mote.Store.{SetFault, Missing, BadPackage, se
 use Rattle.component_package.specs.link.Link.{Cause, FlashFull, RamFull, Symbols, Relocations, Duplicate, Undefined, Range, link_cause}
 use Rattle.component_package.specs.mote.Frames.{Frame, is_end}
 use Rattle.component_package.specs.mote.Page.{filled_page}
-use Rattle.component_package.specs.mote.Machine.{Mote, Step, is_bad_frame, unless_standing, is_incoming, refuses, is_piece_of, cause_answer, take_manifest, take_piece, take_piece_of, store_piece, link_set, link_held, link_incoming, commit_incoming, step}
+use Rattle.component_package.specs.mote.Machine.{Mote, Step, is_bad_frame, unless_standing, is_incoming, is_piece_of, take_manifest, take_piece, take_piece_of, link_set, link_held, link_incoming, commit_incoming, step}
 
 -- the step isn't the end of the session
 abbrev GoesOn : Step → Type 0

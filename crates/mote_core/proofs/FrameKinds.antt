@@ -1,15 +1,10 @@
 -- Which frame it is.
-use Rattle.std.proofs.Common.{◌≡◌, ℕ, ◌≤◌, ◌<◌, Bool, true, false, cond, List, [], ◌∷◌, length, refl, sym, ap, ◌∙◌, subst, arith}
+use Rattle.std.proofs.Common.{◌≡◌, ℕ, ◌≤◌, true, false, List, [], ◌∷◌, length, refl, ap, ◌∙◌, arith}
 use Rattle.std.proofs.lemmas.Bool.Decides.{nat_tests}
-use Rattle.flash_pages.specs.State.{State}
-use Rattle.flash_pages.specs.Board.{View}
-use Rattle.component_package.specs.declared.answer.Answer.{Answer}
 use Rattle.component_package.specs.declared.answer.Answer.TheVariants as answers
 use Rattle.component_package.specs.mote.Frames.{Frame}
-use Rattle.component_package.specs.mote.Machine.{Mote, Step as MachineStep, is_bad_frame, refuses, step}
-use Rattle.install_journal.specs.declared.standing.Standing.{Standing}
+use Rattle.component_package.specs.mote.Machine.{Mote, is_bad_frame, refuses, step}
 use Rattle.mote_core.specs.Reading.{frame_of}
-use Rattle.mote_core.specs.Frames.{LeavesRead, DoesRead}
 
 -- a type that there isn't, or a payload where none belongs
 pub bad_row : (t : Mote) (f : Frame) → is_bad_frame f ≡ true → step t f ≡ refuses t (answers.BadFrame f.kind)

@@ -1,14 +1,14 @@
 -- The pages of an image that are sent one after another.
-use Rattle.std.proofs.Common.{◌≡◌, inl, inr, zero, suc, ℕ, ◌+◌, ◌<◌, ◌≤◌, Bool, true, false, Some, ⊎_elim, List, [], ◌∷◌, ◌++◌, length, get_or, take, drop, refl, sym as flip, ◌∙◌, ap, subst, arith, append_assoc}
+use Rattle.std.proofs.Common.{◌≡◌, inl, inr, ℕ, ◌+◌, ◌<◌, ◌≤◌, Bool, true, false, Some, List, [], ◌∷◌, ◌++◌, length, get_or, take, drop, refl, sym as flip, ◌∙◌, ap, arith, append_assoc}
 use Rattle.std.specs.List.{concat}
-use Rattle.std.proofs.lemmas.List.{take_more, drop_more, take_all, drop_all, append-nil, take-append-drop, get_or-take, get_or-drop, length-take-le}
+use Rattle.std.proofs.lemmas.List.{take_more, drop_more, take_all, append-nil, take-append-drop, get_or-take, get_or-drop, length-take-le}
 use Rattle.std.proofs.Common.{length-drop}
 use Rattle.std.proofs.lemmas.List.Folds.{concat-append}
-use Rattle.flash_pages.specs.State.{State, IsState, Prog, Ext, page_at, with_sent, SendsPart}
+use Rattle.flash_pages.specs.State.{State, IsState, Ext, page_at, with_sent, SendsPart}
 use Rattle.flash_pages.specs.Board.{View, Reads, UsesLine}
 use Rattle.flash_pages.specs.Moments.{LeavesOnly}
 use Rattle.flash_pages.proofs.Runs.{starts, follows, weaker, reads, sends}
-use Rattle.component_package.specs.mote.Sides.{pages_from, is_pending}
+use Rattle.component_package.specs.mote.Sides.{is_pending}
 use Rattle.component_package.specs.mote.Machine.{Mote, chosen_of}
 use Rattle.component_package.specs.link.Pages.{IsPages}
 use Rattle.mote_laws.proofs.Stands.{choice_is_the_motes}

@@ -3,6 +3,8 @@ pub mod Streams
 pub mod Turns
 pub mod Rows
 pub mod Works
+pub mod Wears
+pub mod Formats
 pub mod Below
 pub mod Causes
 pub mod Boots

@@ -1,15 +1,12 @@
 -- The limits of a set.
-use Rattle.std.proofs.Common.{◌≡◌, ℕ, ◌≤◌, Bool, true, false, cond, ltb, ◌+◌, List, Option, Some, None, refl, sym, ap, ◌∙◌, subst, arith, length}
-use Rattle.std.proofs.lemmas.Bool.{ltb-false}
-use Rattle.std.proofs.lemmas.Option.{same_Some}
+use Rattle.std.proofs.Common.{◌≡◌, ℕ, Bool, true, false, cond, ltb, ◌+◌, Some, None, refl, ap, ◌∙◌}
 use Rattle.std.specs.Option.{option_or, option_map}
 use Rattle.component_package.specs.mote.Machine.{cause_answer}
 use Rattle.flash_pages.specs.State.{State}
 use Rattle.component_package.specs.declared.answer.Answer.{Answer}
 use Rattle.component_package.specs.declared.answer.Answer.TheVariants as answers
-use Rattle.component_package.specs.packages.Component.{Component}
-use Rattle.component_package.specs.link.Link.{Cause, FlashFull, RamFull, Symbols, Relocations, rooms_of, room_cause, symbols_cause, relocations_cause, link_cause}
-use Rattle.component_package.specs.link.Layout.{Room, code_total, init_total, bss_total}
+use Rattle.component_package.specs.link.Link.{Cause, FlashFull, RamFull, Symbols, Relocations, rooms_of, room_cause, symbols_cause, relocations_cause}
+use Rattle.component_package.specs.link.Layout.{code_total, init_total, bss_total}
 use Rattle.component_store.specs.declared.set.StoredSet.{StoredSet}
 use Rattle.component_store.specs.Sets.{IsSet, HoldsSet, HasRooms}
 use Rattle.layout_plan.specs.declared.plan.PlanFault.{PlanFault}

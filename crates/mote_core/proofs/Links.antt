@@ -1,29 +1,26 @@
 -- The steps of LINK.
-use Rattle.std.proofs.Common.{◌≡◌, ℕ, ◌+◌, ◌≤◌, Bool, true, false, ◌&&◌, leb, List, Option, Some, None, Err, refl, sym, ap, ◌∙◌, subst, arith, length}
+use Rattle.std.proofs.Common.{◌≡◌, ℕ, ◌+◌, ◌≤◌, Bool, true, false, List, Option, Some, None, Err, refl, sym, ap, ◌∙◌, subst, arith}
 use Rattle.std.proofs.lemmas.Bool.Decides.{nat_tests}
-use Rattle.std.proofs.lemmas.Bool.{false≢true}
 use Rattle.std.proofs.lemmas.Option.{same_Some}
-use Rattle.flash_pages.specs.State.{State, Place, Prog, Ext, IsState, OnlyPages, ext_pages}
+use Rattle.flash_pages.specs.State.{State, Place, Prog, Ext, IsState, ext_pages}
 use Rattle.flash_pages.specs.Board.{View, Reads}
 use Rattle.flash_pages.specs.Moments.{LeavesOnly}
 use Rattle.flash_pages.proofs.Runs.{starts, follows, weaker, at_end, reads}
 use Rattle.flash_pages.proofs.Pages.{only_starts, only_only}
 use Rattle.component_package.specs.declared.answer.Answer.{Answer}
 use Rattle.component_package.specs.declared.answer.Answer.TheVariants as answers
-use Rattle.component_package.specs.packages.Manifest.{StoredRelease, IsStored, Stores, stored_of}
-use Rattle.component_package.specs.link.Link.{Cause, Duplicate, Undefined, Range, IsLate, link_cause, rooms_of, room_cause, symbols_cause, relocations_cause, duplicate_cause, sites_cause}
+use Rattle.component_package.specs.packages.Manifest.{IsStored, Stores, stored_of}
+use Rattle.component_package.specs.link.Link.{Undefined, Range, IsLate, link_cause, rooms_of, room_cause, symbols_cause, relocations_cause, sites_cause}
 use Rattle.component_package.specs.packages.Component.{Component}
 use Rattle.component_package.specs.link.Areas.{MergedSymbol, Tells, Lists}
 use Rattle.component_package.specs.link.Pages.{IsTableOf, listed, IsPages}
 use Rattle.component_package.specs.mote.Store.{HasSet, slots_of, set_fault, components_of}
-use Rattle.component_package.specs.mote.Sides.{Parts, man, sym as sym_gate, rel, img, chosen_side, other_side, is_pending}
-use Rattle.component_package.specs.mote.Sound.{IsSound, IsMerged}
+use Rattle.component_package.specs.mote.Sides.{Parts, sym as sym_gate, rel, img, other_side, is_pending}
 use Rattle.component_package.specs.mote.Headline.{StandsFor, StandsForIncoming, has_incoming}
 use Rattle.component_package.specs.mote.Machine.{Mote, range_number}
 use Rattle.component_store.specs.declared.set.StoredSet.{StoredSet}
-use Rattle.component_store.specs.Sets.{HoldsSet, HasHeaders}
+use Rattle.component_store.specs.Sets.{HasHeaders}
 use Rattle.mote_laws.specs.Steps.{Keeps, with_gate}
-use Rattle.mote_laws.specs.Sets.{AreByteSlots}
 use Rattle.mote_laws.specs.Words.{WordsSay}
 use Rattle.mote_laws.proofs.Steps.{writing_keeps}
 use Rattle.mote_laws.proofs.Stands.{resting_steps_stand}
@@ -39,13 +36,13 @@ use Rattle.symbol_merge.specs.Answers.{IsMerged as IsTable}
 use Rattle.link_laws.proofs.Own.{own_list_fits, pages_exist, patched_are_pages}
 use Rattle.reloc_table.specs.declared.fault.BuildFault.{BuildFault}
 use Rattle.reloc_table.specs.declared.fault.BuildFault.TheVariants as builds
-use Rattle.reloc_table.specs.List.{list_area, CauseIs, is_build_fault, is_at_site}
+use Rattle.reloc_table.specs.List.{list_area, CauseIs, is_build_fault}
 use Rattle.reloc_table.specs.Written.{OnlyList}
 use Rattle.image_stage.specs.Staged.{ArePagesOf, OnlyStaged, staged_pages}
 use Rattle.mote_core.specs.Serving.{link_pages, Kept}
-use Rattle.mote_core.specs.Links.{site_answer, IsStagedFor, IsLinking, Refuses, IsEarlyFree, Gates, Goes}
+use Rattle.mote_core.specs.Links.{site_answer, IsStagedFor, IsLinking, Refuses, IsEarlyFree, Goes}
 use Rattle.mote_core.proofs.Works.{Within, step_keeps}
-use Rattle.mote_core.proofs.Causes.{IsLateOnly, late_only, duplicate_first, sites_last, sites_late}
+use Rattle.mote_core.proofs.Causes.{IsLateOnly, late_only, sites_last, sites_late}
 use Rattle.mote_core.proofs.Below.{byte_slots, linkable}
 
 -- ---- what is kept

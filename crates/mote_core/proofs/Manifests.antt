@@ -1,7 +1,6 @@
 -- What MANIFEST does.
-use Rattle.std.proofs.Common.{◌≡◌, ℕ, zero, suc, ◌+◌, ◌≤◌, ◌<◌, Bool, true, false, not, cond, eqb, ltb, ◌&&◌, List, [], ◌∷◌, length, take, map, Option, Some, None, refl, sym, ap, ◌∙◌, subst, arith}
+use Rattle.std.proofs.Common.{◌≡◌, ℕ, zero, suc, ◌≤◌, ◌<◌, Bool, true, false, not, cond, ltb, ◌&&◌, List, [], ◌∷◌, length, take, map, Option, Some, None, refl, sym, ap, ◌∙◌, subst, arith}
 use Rattle.std.specs.Prelude.{zip}
-use Rattle.std.specs.Option.{option_map}
 use Rattle.flash_pages.specs.State.{State}
 use Rattle.flash_pages.specs.Board.{View}
 use Rattle.flash_pages.specs.Moments.{LeavesOnly}
@@ -14,9 +13,7 @@ use Rattle.component_package.specs.declared.manifest.ManifestFault.{ManifestFaul
 use Rattle.component_package.specs.packages.Manifest.{Release, Placed, StoredRelease, IsRelease, manifest_fault, number_of_manifest_fault, release_in, release_of, stored_of}
 use Rattle.component_package.specs.mote.Store.{is_same_entry, slots_for}
 use Rattle.component_package.specs.mote.Headline.{StandsFor}
-use Rattle.component_package.specs.mote.Frames.{Frame}
 use Rattle.component_package.specs.mote.Machine.{Mote, Step as MachineStep, is_same_entries, is_incoming, held_count, manifest_is, take_manifest, refuses, step}
-use Rattle.mote_laws.specs.Invariant.{ComesNext}
 use Rattle.mote_laws.specs.Runs.{is_refusal}
 use Rattle.install_journal.specs.declared.standing.Standing.{Standing}
 use Rattle.install_journal.specs.Steps.{parts, Stands, Step, Takes, Becomes, CanTake, takes_in, manifest_pages}

@@ -1,13 +1,13 @@
 -- What PIECE does.
-use Rattle.std.proofs.Common.{◌≡◌, ◌≢◌, ◌⊎◌, inl, inr, ⊎_elim, ◌↔◌, IsTrue, ℕ, ◌+◌, ◌-◌, ◌*◌, ◌<◌, ◌≤◌, min, Bool, true, false, not, cond, eqb, ltb, leb, ◌&&◌, ◌||◌, List, [], length, take, drop, get_or, set, Option, Some, None, is_some, refl, sym, ap, ◌∙◌, subst, arith, slice_get}
-use Rattle.std.specs.Prelude.{slice_index, slice_range, All, nat_le}
+use Rattle.std.proofs.Common.{◌≡◌, ◌≢◌, inl, ⊎_elim, ◌↔◌, IsTrue, ℕ, ◌+◌, ◌-◌, ◌*◌, ◌<◌, min, Bool, true, false, not, cond, eqb, ltb, leb, ◌&&◌, ◌||◌, List, [], length, take, drop, get_or, set, Option, Some, None, is_some, refl, sym, ap, ◌∙◌, subst, arith, slice_get}
+use Rattle.std.specs.Prelude.{slice_index, slice_range, All}
 use Rattle.std.specs.Option.{option_and_then}
 use Rattle.std.proofs.lemmas.Bool.{and_parts, ltb-true, lt-ltb, eqb-true, false_from_ne_true, false≢true}
 use Rattle.std.proofs.lemmas.Bool.Decides.{nat_tests}
 use Rattle.std.specs.List.{concat}
 use Rattle.std.proofs.lemmas.List.{length-take-le, length-drop, get_or-take, get_or-drop, take_all}
 use Rattle.std.proofs.lemmas.List.Elements.{All-take, All-drop}
-use Rattle.flash_pages.specs.State.{State, Place, Prog, Ext, IsState, IsPage, page_at, with_page, OnlyPages, MayHold, Spoils, ext_pages}
+use Rattle.flash_pages.specs.State.{State, Place, Prog, Ext, IsState, IsPage, page_at, with_page, MayHold, ext_pages}
 use Rattle.flash_pages.specs.Board.{View, Programs}
 use Rattle.flash_pages.specs.Moments.{LeavesOnly}
 use Rattle.flash_pages.proofs.Runs.{starts, weaker, programs}
@@ -16,17 +16,16 @@ use Rattle.component_package.specs.declared.answer.Answer.{Answer}
 use Rattle.component_package.specs.declared.answer.Answer.TheVariants as answers
 use Rattle.component_package.specs.packages.Manifest.{StoredRelease, Placed, Stores}
 use Rattle.component_package.specs.mote.Page.{filled_page}
-use Rattle.component_package.specs.mote.Store.{slot_at, slots_of, held_slot, is_same}
-use Rattle.component_package.specs.mote.Sides.{Parts, parts_of, sym as sym_gate, chosen_side, other_side}
-use Rattle.component_package.specs.mote.Sound.{IsSound}
-use Rattle.component_package.specs.mote.Headline.{StandsFor, has_incoming, StandsForIncoming}
+use Rattle.component_package.specs.mote.Store.{slots_of, held_slot, is_same}
+use Rattle.component_package.specs.mote.Sides.{Parts, sym as sym_gate, chosen_side, other_side}
+use Rattle.component_package.specs.mote.Headline.{StandsFor, StandsForIncoming}
 use Rattle.component_package.specs.mote.Frames.{Frame}
 use Rattle.component_package.specs.mote.Machine.{Mote, Step as MachineStep, step, refuses, take_piece, take_piece_of, store_piece, is_piece_of, with_page_of}
 use Rattle.component_package.proofs.First.{passed}
 use Rattle.component_package.proofs.StoredLemmas.{joined_slice}
 use Rattle.component_store.specs.declared.set.StoreFault.{StoreFault}
 use Rattle.component_store.specs.declared.set.StoreFault.TheVariants.{Page, PieceLength}
-use Rattle.component_store.specs.Pieces.{piece_fault, piece_place, IsPiece}
+use Rattle.component_store.specs.Pieces.{piece_fault, piece_place}
 use Rattle.component_store.proofs.SlotBytes.{slot_is}
 use Rattle.mote_laws.specs.Steps.{Keeps, IsUnused}
 use Rattle.mote_laws.specs.Runs.{is_refusal}
@@ -35,7 +34,7 @@ use Rattle.mote_laws.proofs.Programs.{each_page_is_in_one_part}
 use Rattle.mote_laws.proofs.Sets.{other_sets_stay, same_lists_are, is_same_itself}
 use Rattle.mote_laws.proofs.Stands.{resting_steps_stand, not_held}
 use Rattle.mote_laws.proofs.Motes.{comes_next}
-use Rattle.install_journal.specs.Steps.{parts, Stands, Step, Takes, Becomes, any_mote, unlinks, unlinked}
+use Rattle.install_journal.specs.Steps.{parts, Stands, Step, Takes, any_mote, unlinks, unlinked}
 use Rattle.mote_core.specs.Reading.{frame_of}
 use Rattle.mote_core.specs.Serving.{piece_pages, entry_of_piece, may_change, Serves, Kept, IsServed}
 use Rattle.mote_core.proofs.Works.{Within, first_part, next_part, step_keeps}

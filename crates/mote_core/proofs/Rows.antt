@@ -1,12 +1,11 @@
 -- The rows of the machine for the frames that are served, once the gates and the sides are known.
-use Rattle.std.proofs.Common.{◌≡◌, ℕ, Bool, true, false, cond, Option, Some, None, is_some, refl, sym, ap, ◌∙◌, subst}
+use Rattle.std.proofs.Common.{◌≡◌, ℕ, Bool, true, false, cond, Option, Some, None, is_some, refl, sym, ap, ◌∙◌}
 use Rattle.std.specs.Option.{option_map}
 use Rattle.component_package.specs.declared.answer.Answer.{Answer}
 use Rattle.component_package.specs.declared.answer.Answer.TheVariants as answers
 use Rattle.component_package.specs.declared.manifest.SlotManifest.{SlotManifest}
 use Rattle.component_package.specs.packages.Manifest.{StoredRelease, stored_of}
-use Rattle.component_package.specs.mote.Frames.{Frame}
-use Rattle.component_package.specs.mote.Machine.{Mote, Step, step, refuses, unless_standing, commit_incoming, incoming_number, status_number}
+use Rattle.component_package.specs.mote.Machine.{Mote, Step, step, refuses, unless_standing, commit_incoming, incoming_number}
 use Rattle.mote_laws.specs.Stands.{commit_frame}
 use Rattle.install_journal.specs.declared.standing.Standing.{Standing}
 use Rattle.install_journal.specs.Standing.{IsOfMote, incoming_of}

@@ -1,5 +1,5 @@
 -- A whole session.
-use Rattle.std.proofs.Common.{◌≡◌, Bool, cond, eqb, ℕ, ◌+◌, ◌≤◌, List, [], ◌∷◌, ◌++◌, length, Option, Some, None, refl, sym, ap, ◌∙◌, subst, arith}
+use Rattle.std.proofs.Common.{◌≡◌, Bool, cond, eqb, ℕ, ◌+◌, ◌≤◌, List, [], ◌∷◌, ◌++◌, length, Some, None, refl, sym, ap, ◌∙◌, subst, arith}
 use Rattle.std.proofs.lemmas.Option.{same_Some}
 use Rattle.std.proofs.lemmas.List.{append-nil, length-append}
 use Rattle.std.proofs.lemmas.List.Sums.{sum_by-cons}
@@ -10,16 +10,16 @@ use Rattle.flash_pages.proofs.Runs.{weaker, at_end}
 use Rattle.component_package.specs.declared.answer.Answer.{Answer}
 use Rattle.component_package.specs.mote.Lines.{line_of}
 use Rattle.component_package.specs.mote.Frames.{Frame, has_end, is_too_long}
-use Rattle.component_package.specs.mote.Headline.{StandsFor, IsHeadline}
+use Rattle.component_package.specs.mote.Headline.{IsHeadline}
 use Rattle.component_package.specs.mote.Machine.{Mote, step, boot_frame, mote_from}
 use Rattle.mote_core.specs.Sending.{SendsBut}
 use Rattle.session_laws.specs.Kept.{Works, Leaves}
 use Rattle.session_laws.specs.Sessions.{shown, LeftSince, IsBetween}
-use Rattle.session_laws.specs.Turns.{programs_of, all_programs_of, frames_of, IsTurn, IsSession}
+use Rattle.session_laws.specs.Turns.{programs_of, all_programs_of, frames_of, IsSession}
 use Rattle.session_laws.proofs.Kept.{frames_leave}
 use Rattle.session_laws.proofs.Sessions.{between_begins, frame_keeps, frame_served, works_and_sends, headline}
 use Rattle.session_laws.proofs.Turns.{session_ends, session_goes, ends_more}
-use Rattle.install_journal.specs.Steps.{parts, Stands}
+use Rattle.install_journal.specs.Steps.{Stands}
 use Rattle.mote_core.specs.Serving.{Serves, LeavesWork, DoesWork}
 use Rattle.mote_core.specs.Running.{status_of, EndsWell, Ends, TellsFaults, Goes, IsCalm, TakesTurn, TurnOf, NoFault, HasHeadline}
 use Rattle.mote_core.proofs.Turns.{stands_still}

@@ -1,32 +1,31 @@
 -- What a turn of a session does.
-use Rattle.std.proofs.Common.{◌==◌, ◌≡◌, ◌≢◌, ◌⊎◌, inl, inr, ⊎_elim, ℕ, ◌+◌, ◌<◌, ◌≤◌, Bool, true, false, ◌&&◌, ◌||◌, eqb, List, [], ◌∷◌, ◌++◌, length, take, Option, Some, None, IsTrue, Ok, refl, sym, ap, ◌∙◌, subst, arith, append_assoc}
+use Rattle.std.proofs.Common.{◌==◌, ◌≡◌, ℕ, ◌+◌, ◌<◌, ◌≤◌, Bool, true, false, ◌||◌, eqb, List, [], ◌∷◌, ◌++◌, length, Option, Some, None, Ok, refl, sym, ap, ◌∙◌, subst, arith}
 use Rattle.std.proofs.lemmas.Option.{same_Some}
 use Rattle.std.proofs.lemmas.Bool.{false≢true, eqb-true, and_parts, false_from_ne_true}
 use Rattle.std.proofs.lemmas.List.{append-nil, length-append}
 use Rattle.std.proofs.lemmas.List.Sums.{sum_by-cons}
 use Rattle.flash_pages.specs.State.{State, SendsPart}
-use Rattle.flash_pages.specs.Board.{View, UsesLine, UsesFlash, Elapses}
+use Rattle.flash_pages.specs.Board.{View, UsesLine}
 use Rattle.flash_pages.specs.Moments.{LeavesOnly}
-use Rattle.flash_pages.proofs.Runs.{starts, follows, weaker, at_end, call, sends}
+use Rattle.flash_pages.proofs.Runs.{follows, weaker, at_end, call}
 use Rattle.component_package.specs.declared.answer.Answer.{Answer}
 use Rattle.component_package.specs.declared.answer.Answer.TheVariants.{Ended, Unformatted}
 use Rattle.component_package.specs.mote.Lines.{line_of}
 use Rattle.std.proofs.lemmas.Bool.Decides.{nat_tests}
-use Rattle.component_package.specs.mote.Frames.{Frame, IsFrame, frame_bytes, IsPartial, is_too_long, has_end, is_end}
+use Rattle.component_package.specs.mote.Frames.{Frame, IsFrame, frame_bytes, IsPartial, is_too_long, is_end}
 use Rattle.component_package.specs.mote.Sides.{parts_of}
 use Rattle.component_package.specs.mote.Headline.{StandsFor}
 use Rattle.component_package.specs.mote.Machine.{Mote, step}
 use Rattle.mote_core.specs.declared.session.Next.{Next}
 use Rattle.mote_core.specs.declared.session.Next.TheVariants.{Frame as NextFrame, InputEnd, CutFrame, TooLong, Budget}
-use Rattle.mote_core.specs.Reading.{served_of, NextGives, ServesNext, frame_of}
+use Rattle.mote_core.specs.Reading.{served_of, NextGives, ServesNext}
 use Rattle.mote_core.specs.declared.session.Session.{Session}
 use Rattle.mote_core.specs.Sending.{SendsBut}
 use Rattle.mote_laws.specs.Runs.{is_served}
 use Rattle.mote_laws.proofs.Runs.{machine_is_total}
-use Rattle.session_laws.specs.History.{lines_from}
 use Rattle.session_laws.specs.Kept.{Works, Leaves}
-use Rattle.session_laws.specs.Sessions.{shown, LeftSince}
-use Rattle.session_laws.specs.Turns.{programs_of, all_programs_of, frames_of, IsTurn, LeavesTurn}
+use Rattle.session_laws.specs.Sessions.{shown}
+use Rattle.session_laws.specs.Turns.{programs_of}
 use Rattle.mote_core.proofs.Ends.{ended_is_end}
 use Rattle.session_laws.proofs.Kept.{frames_leave}
 use Rattle.session_laws.proofs.Sessions.{works_and_sends}

@@ -1,12 +1,11 @@
 -- How the work of a frame is put together from the steps of the crates below.
-use Rattle.std.proofs.Common.{◌≡◌, ℕ, ◌+◌, ◌≤◌, Bool, true, false, List, Some, refl, sym, ap, ◌∙◌, subst, arith}
-use Rattle.flash_pages.specs.State.{State, Place, Prog, OnlyPages}
+use Rattle.std.proofs.Common.{◌≡◌, ℕ, ◌+◌, ◌≤◌, Bool, false, Some, refl, sym, ap, subst, arith}
+use Rattle.flash_pages.specs.State.{State, Place, Prog}
 use Rattle.flash_pages.specs.Board.{View, Reads}
 use Rattle.flash_pages.specs.Moments.{LeavesOnly}
 use Rattle.flash_pages.proofs.Runs.{starts, follows, weaker, at_end, reads}
 use Rattle.flash_pages.proofs.Pages.{only_starts, only_only}
 use Rattle.component_package.specs.declared.answer.Answer.{Answer}
-use Rattle.component_package.specs.mote.Sound.{IsSound}
 use Rattle.component_package.specs.mote.Headline.{StandsFor}
 use Rattle.component_package.specs.mote.Frames.{Frame}
 use Rattle.component_package.specs.mote.Machine.{Mote, Step as MachineStep, step, refuses}

@@ -1,5 +1,5 @@
 -- What the commands that change no flash do, and how a command ends.
-use Rattle.std.specs.Prelude.{◌≡◌, ◌⊎◌, ℕ, Bool, true, false, if◌then◌else◌, List, ◌++◌, Some}
+use Rattle.std.specs.Prelude.{◌≡◌, ◌⊎◌, ℕ, Bool, true, false, if◌then◌else◌, List, Some}
 use Rattle.std.specs.List.{concat}
 use Rattle.flash_pages.specs.State.{State, with_sent}
 use Rattle.flash_pages.specs.Board.{View}

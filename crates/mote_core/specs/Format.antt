@@ -1,6 +1,6 @@
 -- What `format` does, and what a cut in it may leave.
 use Rattle.std.specs.Prelude.{◌≡◌, ◌⊎◌, ℕ, List, ◌++◌, drop, replicate, slice_index, codes, Some}
-use Rattle.flash_pages.specs.State.{State, Ext, MayHold, always, with_page}
+use Rattle.flash_pages.specs.State.{State, Ext, MayHold, always}
 use Rattle.flash_pages.specs.Board.{View}
 use Rattle.flash_pages.specs.Page.{blank_page}
 use Rattle.external_flash.specs.Gates.{IsShut, open_page, closed_page}

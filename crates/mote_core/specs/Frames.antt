@@ -1,5 +1,5 @@
 -- Frames that are served with what the gates and the sides said before.
-use Rattle.std.specs.Prelude.{◌≡◌, ℕ, Bool, if◌then◌else◌, List, [], Option, Some, None, is_some}
+use Rattle.std.specs.Prelude.{◌≡◌, ℕ, if◌then◌else◌, [], Option, Some, None, is_some}
 use Rattle.flash_pages.specs.State.{State}
 use Rattle.flash_pages.specs.Board.{View}
 use Rattle.flash_pages.specs.Moments.{LeavesOnly}

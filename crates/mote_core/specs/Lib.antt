@@ -1,6 +1,7 @@
 pub mod Reading
 pub mod Sending
 pub mod Serving
+pub mod Wear
 pub mod Frames
 pub mod Links
 pub mod Running

@@ -1,5 +1,5 @@
 -- LINK, step by step, over a set that was opened.
-use Rattle.std.specs.Prelude.{◌⊎◌, ◌≡◌, ◌&&◌, ◌≤◌, ℕ, Bool, true, false, Option, Some, None, is_some}
+use Rattle.std.specs.Prelude.{◌⊎◌, ◌≡◌, ℕ, Bool, true, false, Option, Some, None}
 use Rattle.flash_pages.specs.State.{State}
 use Rattle.flash_pages.specs.Board.{View, Told}
 use Rattle.flash_pages.specs.Moments.{LeavesOnly}
@@ -9,7 +9,7 @@ use Rattle.reloc_table.specs.declared.fault.BuildFault.{BuildFault}
 use Rattle.reloc_table.specs.declared.fault.BuildFault.TheVariants as faults
 use Rattle.component_package.specs.packages.Manifest.{stored_of}
 use Rattle.component_package.specs.link.Link.{Cause, link_cause, rooms_of, room_cause, symbols_cause, relocations_cause}
-use Rattle.component_package.specs.mote.Sides.{Parts, sym, rel, img}
+use Rattle.component_package.specs.mote.Sides.{sym, rel, img}
 use Rattle.component_package.specs.mote.Machine.{Mote, cause_answer, range_number}
 use Rattle.component_store.specs.declared.set.StoredSet.{StoredSet}
 use Rattle.component_store.specs.Sets.{HoldsSet}

@@ -1,12 +1,12 @@
 -- What a session does to its board, from the bytes that it reads: the headline as the contract of a call.
-use Rattle.std.specs.Prelude.{◌≡◌, ◌≢◌, ◌⊎◌, ℕ, ◌+◌, ◌≤◌, List, [], ◌∷◌, ◌++◌, Bool, false, ◌==◌, ◌||◌, if◌then◌else◌, Option, Some, None, length}
+use Rattle.std.specs.Prelude.{◌≡◌, ◌≢◌, ℕ, ◌+◌, ◌≤◌, List, [], ◌∷◌, ◌++◌, false, ◌==◌, if◌then◌else◌, Option, Some, None, length}
 use Rattle.flash_pages.specs.State.{State}
 use Rattle.flash_pages.specs.Board.{View, Rose}
 use Rattle.component_package.specs.mote.Frames.{Frame, is_too_long, has_end}
 use Rattle.component_package.specs.mote.Headline.{IsHeadline}
 use Rattle.component_package.specs.mote.Machine.{Mote, boot_frame}
 use Rattle.session_laws.specs.Sessions.{shown, LeftSince}
-use Rattle.session_laws.specs.Turns.{all_programs_of, frames_of, IsTurn}
+use Rattle.session_laws.specs.Turns.{all_programs_of, IsTurn}
 use Rattle.install_journal.specs.Steps.{Stands}
 
 -- ---- statuses

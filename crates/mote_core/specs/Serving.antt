@@ -1,16 +1,16 @@
 -- What serving one frame does to a board that tells a sound state.
-use Rattle.std.specs.Prelude.{◌≡◌, ◌≢◌, ℕ, ◌+◌, ◌*◌, ◌==◌, ◌&&◌, ◌||◌, nat_le, Bool, true, false, if◌then◌else◌, List, Option, Some, None, slice_get, slice_index}
+use Rattle.std.specs.Prelude.{◌≡◌, ◌⊎◌, ℕ, ◌+◌, ◌*◌, ◌==◌, ◌&&◌, ◌||◌, nat_le, Bool, true, false, if◌then◌else◌, List, Option, Some, None, slice_get, slice_index}
 use Rattle.std.specs.Option.{option_and_then}
 use Rattle.flash_pages.specs.State.{State, Place, Prog, Ext, OnlyPages, ext_pages}
 use Rattle.flash_pages.specs.Board.{View}
 use Rattle.flash_pages.specs.Moments.{LeavesOnly}
 use Rattle.component_package.specs.declared.answer.Answer.{Answer}
 use Rattle.component_package.specs.declared.answer.Answer.TheVariants as answers
-use Rattle.component_package.specs.mote.Sides.{Parts, chosen_side, is_pending}
+use Rattle.component_package.specs.mote.Sides.{Parts, fmt, go_a, go_b, sel, chosen_side, is_pending}
 use Rattle.component_package.specs.mote.Headline.{StandsFor}
 use Rattle.component_package.specs.packages.Manifest.{Placed}
-use Rattle.component_package.specs.mote.Frames.{Frame}
-use Rattle.component_package.specs.mote.Machine.{Mote, step}
+use Rattle.component_package.specs.mote.Frames.{Frame, is_end}
+use Rattle.component_package.specs.mote.Machine.{Mote, step, is_bad_frame}
 use Rattle.mote_laws.specs.Steps.{other_go, Keeps}
 use Rattle.mote_laws.specs.Runs.{is_refusal}
 use Rattle.mote_laws.specs.Standing.{IsUnformatted}
@@ -92,6 +92,34 @@ DoesWork f old new a = (z : State) (t : Mote) → old.state ≡ Some z → Stand
 -- a boot was answered so exactly where there is nothing to boot
 abbrev pub TellsFormatted : Answer → Parts → Type 0
 TellsFormatted a p = (a ≡ answers.Unformatted → IsUnformatted p) × (IsUnformatted p → a ≡ answers.Unformatted)
+
+-- ---- on any board that tells its state, sound or not
+
+-- the gates and the sides that say what boots are as they were
+pub record BootsAlike (p q : Parts) : Type 0 where
+  pub fmt_is : q.gates fmt ≡ p.gates fmt
+  pub go_a_is : q.gates go_a ≡ p.gates go_a
+  pub go_b_is : q.gates go_b ≡ p.gates go_b
+  pub sel_is : q.gates sel ≡ p.gates sel
+  pub side_a_is : q.side_a ≡ p.side_a
+  pub side_b_is : q.side_b ≡ p.side_b
+
+-- there is something to boot, if there was
+pub record StaysFormatted (z : State) (v : View) : Type 0 where
+  pub end : State
+  pub told : v.state ≡ Some end
+  pub stays : IsUnformatted (parts end) → IsUnformatted (parts z)
+
+-- Unformatted answers exactly the frames that aren't bad where there is nothing to boot; and no frame brings that about.
+pub record AnswersFormatted (f : Frame) (a : Answer) (z : State) (v : View) : Type 0 where
+  pub only : a ≡ answers.Unformatted → (is_bad_frame f ≡ false) × IsUnformatted (parts z)
+  pub always : is_bad_frame f ≡ false → IsUnformatted (parts z) → a ≡ answers.Unformatted
+  pub stays : StaysFormatted z v
+
+-- on every board, Ended answers END alone, and END is answered so or Unformatted
+pub record AnswersEnd (f : Frame) (a : Answer) : Type 0 where
+  pub only : a ≡ answers.Ended → is_end f ≡ true
+  pub always : is_end f ≡ true → (a ≡ answers.Ended) ⊎ (a ≡ answers.Unformatted)
 
 -- ---- parts of the work of a frame
 

@@ -1,11 +1,15 @@
 //! What a frame is answered, and what it does to the flashes.
 
 ghost use Rattle.std.specs.Prelude.{◌≡◌, ◌↔◌, ◌≤◌, false, length, IfOk};
+ghost use Rattle.std.specs.Result.{is_ok};
 ghost use Rattle.flash_pages.specs.Board.{UsesFlash, FlashFaults, Told};
 ghost use Rattle.component_package.specs.mote.Machine.{is_bad_frame};
-ghost use Rattle.install_journal.specs.Standing.{HasManifests};
+ghost use Rattle.component_package.specs.declared.answer.Answer.TheVariants.{Unformatted};
+ghost use Rattle.install_journal.specs.Steps.{parts};
+ghost use Rattle.install_journal.specs.Standing.{HasManifests, IsStanding};
 ghost use Rattle.mote_core.specs.Reading.{frame_of};
-ghost use Rattle.mote_core.specs.Serving.{LeavesWork, DoesWork};
+ghost use Rattle.mote_core.specs.Serving.{LeavesWork, DoesWork, StaysFormatted, AnswersFormatted, AnswersEnd};
+ghost use Rattle.mote_core.specs.Wear.{WearsRead, WearsWork};
 ghost use Rattle.mote_core.specs.Frames.{LeavesRead, DoesRead};
 
 use crate::frames::abort::serve_abort;
@@ -46,6 +50,9 @@ fn serve_known<B: Board>(
     requires short { length payload.now ≤ 1024 }
     ensures works { LeavesRead standing.now (frame_of kind payload.now) (B.view board.old) (B.view board.new) }
     ensures does { IfOk result (λ a. DoesRead standing.now (frame_of kind payload.now) (B.view board.old) (B.view board.new) a) }
+    ensures wear { WearsRead (is_ok result) standing.now (frame_of kind payload.now) (B.view board.old) (B.view board.new) }
+    ensures formatted { IfOk result (λ a. Told (B.view board.old) (λ z. IsStanding (parts z) standing.now → StaysFormatted z (B.view board.new))) }
+    ensures ended { IfOk result (λ a. AnswersEnd (frame_of kind payload.now) a × (a ≡ Unformatted → ⊥)) }
     ensures uses { UsesFlash (B.view board.old) (B.view board.new) }
     ensures faults { FlashFaults result (B.view board.old) (B.view board.new) }
 {
@@ -91,6 +98,12 @@ pub fn serve_one<B: Board>(board: &mut B, kind: u8, payload: &[u8]) -> Result<An
     requires { length payload.now ≤ 1024 }
     ensures works { LeavesWork (frame_of kind payload.now) (B.view board.old) (B.view board.new) }
     ensures answer { IfOk result (λ a. DoesWork (frame_of kind payload.now) (B.view board.old) (B.view board.new) a) }
+    // Each page of program flash and of LINK's areas is programmed once at most, and only where it is to hold other bytes.
+    ensures wear { WearsWork (is_ok result) (frame_of kind payload.now) (B.view board.old) (B.view board.new) }
+    // On any board that tells its state, sound or not.
+    ensures unformatted { IfOk result (λ a. Told (B.view board.old) (λ z.
+        AnswersFormatted (frame_of kind payload.now) a z (B.view board.new))) }
+    ensures ended { IfOk result (AnswersEnd (frame_of kind payload.now)) }
     ensures uses { UsesFlash (B.view board.old) (B.view board.new) }
     ensures faults { FlashFaults result (B.view board.old) (B.view board.new) }
 {

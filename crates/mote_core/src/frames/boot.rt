@@ -1,11 +1,14 @@
 //! BOOT.
 
-ghost use Rattle.std.specs.Prelude.{IfOk};
+ghost use Rattle.std.specs.Prelude.{◌≡◌, IfOk};
+ghost use Rattle.std.specs.Result.{is_ok};
 ghost use Rattle.flash_pages.specs.Board.{UsesFlash, Told};
+ghost use Rattle.component_package.specs.declared.answer.Answer.TheVariants.{Ended};
 ghost use Rattle.component_package.specs.mote.Machine.{boot_frame};
 ghost use Rattle.flash_pages.specs.Board.{FlashFaults};
 ghost use Rattle.install_journal.specs.Steps.{parts};
-ghost use Rattle.mote_core.specs.Serving.{LeavesWork, DoesWork, TellsFormatted};
+ghost use Rattle.mote_core.specs.Serving.{LeavesWork, DoesWork, TellsFormatted, StaysFormatted};
+ghost use Rattle.mote_core.specs.Wear.{WearsWork};
 
 use boot_loader::{BootFault, boot};
 use component_package::Answer;
@@ -16,6 +19,9 @@ pub(crate) fn serve_boot<B: Board>(board: &mut B) -> Result<Answer, Failed>
     ensures works { LeavesWork boot_frame (B.view board.old) (B.view board.new) }
     ensures does { IfOk result (λ a. DoesWork boot_frame (B.view board.old) (B.view board.new) a) }
     ensures formatted { IfOk result (λ a. Told (B.view board.old) (λ z. TellsFormatted a (parts z))) }
+    ensures stays { IfOk result (λ a. Told (B.view board.old) (λ z. StaysFormatted z (B.view board.new))) }
+    ensures other { IfOk result (λ a. a ≡ Ended → ⊥) }
+    ensures wear { WearsWork (is_ok result) boot_frame (B.view board.old) (B.view board.new) }
     ensures uses { UsesFlash (B.view board.old) (B.view board.new) }
     ensures faults { FlashFaults result (B.view board.old) (B.view board.new) }
 {

@@ -1,7 +1,7 @@
 //! LINK.
 
-ghost use Rattle.std.specs.Prelude.{length, true, false, OnOk, ◌≡◌, ◌≤◌, ℕ, IfOk, IfErr, Some, None, Option};
-ghost use Rattle.std.specs.Result.{result_err};
+ghost use Rattle.std.specs.Prelude.{length, true, false, OnOk, ◌≡◌, ◌≤◌, ℕ, IfOk, IfErr, IfSome, Some, None, Option};
+ghost use Rattle.std.specs.Result.{result_err, is_ok};
 ghost use Rattle.flash_pages.specs.State.{State};
 ghost use Rattle.flash_pages.specs.Board.{Reads, UsesFlash, FlashFaults, Told};
 ghost use Rattle.component_package.specs.link.Link.{rooms_of, room_cause, symbols_cause, relocations_cause};
@@ -13,7 +13,9 @@ ghost use Rattle.install_journal.specs.Standing.{HasManifests};
 ghost use Rattle.symbol_merge.specs.Stored.{set_in, IsPlanOf};
 ghost use Rattle.reloc_table.specs.List.{relocs_of};
 ghost use Rattle.component_package.specs.mote.Machine.{range_number};
-ghost use Rattle.mote_core.specs.Serving.{is_late_cause};
+ghost use Rattle.session_laws.specs.Lines.{prints};
+ghost use Rattle.mote_core.specs.Serving.{is_late_cause, StaysFormatted};
+ghost use Rattle.mote_core.specs.Wear.{WearsRead, WorksIn, SparesList, SparesStaged};
 ghost use Rattle.mote_core.specs.Frames.{link_frame, LeavesRead, DoesRead};
 ghost use Rattle.mote_core.specs.Links.{Counts, Flags, Links, site_answer, IsStagedFor, IsLinking, IsEarlyFree, Refuses, Goes, LeavesLink};
 
@@ -39,6 +41,8 @@ fn make_symbols<B: Board>(
     ensures goes { IfOk result (λ a. Told (B.view board.old) (λ s. (t : Mote) → IsLinking t set.now s → IsEarlyFree set.now s → is_made ≡ (parts s).gates sym →
         Goes t set.now true ((parts s).gates rel) a s (B.view board.new))) }
     ensures leaves { LeavesLink set.now (λ s. IsEarlyFree set.now s × (is_made ≡ (parts s).gates sym)) 33 (B.view board.old) (B.view board.new) }
+    ensures wears { Told (B.view board.old) (λ s. WorksIn 18 49 (is_ok result) s (B.view board.old) (B.view board.new)) }
+    ensures line { IfOk result (λ a. IfSome a (λ b. prints b ≡ true)) }
     ensures uses { UsesFlash (B.view board.old) (B.view board.new) }
     ensures faults { FlashFaults result (B.view board.old) (B.view board.new) }
 {
@@ -69,7 +73,8 @@ fn range_number(fault: RangeFault) -> u8
 
 // The line of a cause that a relocation has, if the fault is one.
 fn site_answer(fault: BuildFault) -> Option<Answer>
-    ensures { result ≡ site_answer fault }
+    ensures answer { result ≡ site_answer fault }
+    ensures line { IfSome result (λ a. prints a ≡ true) }
 {
     match fault {
         BuildFault::Undefined(k, r, symbol) => Some(Answer::Undefined(k, r, symbol)),
@@ -91,6 +96,10 @@ fn make_relocs<B: Board>(
     ensures goes { IfOk result (λ a. Told (B.view board.old) (λ s. (t : Mote) → IsLinking t set.now s → (parts s).gates sym ≡ true → is_made ≡ (parts s).gates rel →
         Goes t set.now true true a s (B.view board.new))) }
     ensures leaves { LeavesLink set.now (λ s. ((parts s).gates sym ≡ true) × (is_made ≡ (parts s).gates rel)) 257 (B.view board.old) (B.view board.new) }
+    ensures wears { Told (B.view board.old) (λ s. WorksIn 50 305 (is_ok result) s (B.view board.old) (B.view board.new)) }
+    ensures spares { Told (B.view board.old) (λ s. (t : Mote) → IsLinking t set.now s → (parts s).gates sym ≡ true →
+        SparesList (set_in s set.now) s (B.view board.old) (B.view board.new)) }
+    ensures line { IfOk result (λ a. IfSome a (λ b. prints b ≡ true)) }
     ensures uses { UsesFlash (B.view board.old) (B.view board.new) }
     ensures faults { FlashFaults result (B.view board.old) (B.view board.new) }
 {
@@ -119,6 +128,9 @@ fn make_image<B: Board>(board: &mut B, set: &StoredSet, plan: &Plan) -> Result<(
     ensures done { OnOk result (Told (B.view board.old) (λ s. (t : Mote) → IsLinking t set.now s → (parts s).gates rel ≡ true → (parts s).gates img ≡ false →
         IsStagedFor t set.now s (B.view board.new))) }
     ensures leaves { LeavesLink set.now (λ s. ((parts s).gates rel ≡ true) × ((parts s).gates img ≡ false)) 481 (B.view board.old) (B.view board.new) }
+    ensures wears { Told (B.view board.old) (λ s. WorksIn 306 785 (is_ok result) s (B.view board.old) (B.view board.new)) }
+    ensures spares { Told (B.view board.old) (λ s. (t : Mote) → IsLinking t set.now s → (parts s).gates rel ≡ true →
+        SparesStaged (set_in s set.now) s (B.view board.old) (B.view board.new)) }
     ensures uses { UsesFlash (B.view board.old) (B.view board.new) }
     ensures faults { FlashFaults result (B.view board.old) (B.view board.new) }
 {
@@ -143,6 +155,7 @@ fn plan_set(set: &StoredSet) -> Result<Plan, Answer>
     ensures room { IfOk result (λ plan. (s : State) → HoldsSet s set.now → room_cause (rooms_of (set_in s set.now)) ≡ None) }
     ensures refuses { IfErr result (λ a. (s : State) → HoldsSet s set.now → Refuses set.now s a) }
     ensures early { IfErr result (λ a. is_late_cause a ≡ false) }
+    ensures line { IfErr result (λ a. prints a ≡ true) }
 {
     let _ = room(&set.slots.manifest.entries, &set.slots.slots, &set.headers);
     match plan_of_set(set) {
@@ -157,6 +170,7 @@ fn count_set<B: Board>(board: &mut B, set: &StoredSet) -> Result<Option<Answer>,
     requires { IsSet set.now }
     ensures counts { IfOk result (λ a. Told (B.view board.old) (λ s. HoldsSet s set.now → room_cause (rooms_of (set_in s set.now)) ≡ None → Counts a set.now s)) }
     ensures few { IfOk result (λ a. a ≡ None → relocs_of set.now ≤ 8192) }
+    ensures line { IfOk result (λ a. IfSome a (λ b. prints b ≡ true)) }
     ensures reads { Reads (B.view board.old) (B.view board.new) }
     ensures faults { FlashFaults result (B.view board.old) (B.view board.new) }
 {
@@ -188,6 +202,10 @@ fn make_areas<B: Board>(
     ensures goes { IfOk result (λ a. Told (B.view board.old) (λ s. (t : Mote) → IsLinking t set.now s → IsEarlyFree set.now s → Flags standing.now.symbols standing.now.relocs s →
         Goes t set.now true true a s (B.view board.new))) }
     ensures leaves { LeavesLink set.now (λ s. IsEarlyFree set.now s × Flags standing.now.symbols standing.now.relocs s) 290 (B.view board.old) (B.view board.new) }
+    ensures wears { Told (B.view board.old) (λ s. WorksIn 18 305 (is_ok result) s (B.view board.old) (B.view board.new)) }
+    ensures spares { Told (B.view board.old) (λ s. (t : Mote) → IsLinking t set.now s → IsEarlyFree set.now s → Flags standing.now.symbols standing.now.relocs s →
+        SparesList (set_in s set.now) s (B.view board.old) (B.view board.new)) }
+    ensures line { IfOk result (λ a. IfSome a (λ b. prints b ≡ true)) }
     ensures uses { UsesFlash (B.view board.old) (B.view board.new) }
     ensures faults { FlashFaults result (B.view board.old) (B.view board.new) }
 {
@@ -208,6 +226,12 @@ fn link_set<B: Board>(board: &mut B, standing: &Standing, set: &StoredSet) -> Re
     ensures links { IfOk result (λ a. Told (B.view board.old) (λ s. (t : Mote) → IsLinking t set.now s → Flags standing.now.symbols standing.now.relocs s →
         Links t set.now a s (B.view board.new))) }
     ensures leaves { LeavesLink set.now (λ s. Flags standing.now.symbols standing.now.relocs s) 771 (B.view board.old) (B.view board.new) }
+    ensures wears { Told (B.view board.old) (λ s. WorksIn 18 785 (is_ok result) s (B.view board.old) (B.view board.new)) }
+    ensures list { Told (B.view board.old) (λ s. (t : Mote) → IsLinking t set.now s → Flags standing.now.symbols standing.now.relocs s →
+        SparesList (set_in s set.now) s (B.view board.old) (B.view board.new)) }
+    ensures staged { Told (B.view board.old) (λ s. (t : Mote) → IsLinking t set.now s → Flags standing.now.symbols standing.now.relocs s →
+        SparesStaged (set_in s set.now) s (B.view board.old) (B.view board.new)) }
+    ensures line { IfOk result (λ a. prints a ≡ true) }
     ensures uses { UsesFlash (B.view board.old) (B.view board.new) }
     ensures faults { FlashFaults result (B.view board.old) (B.view board.new) }
 {
@@ -236,6 +260,9 @@ pub(crate) fn serve_link<B: Board>(board: &mut B, standing: &Standing) -> Result
     requires { HasManifests standing.now }
     ensures works { LeavesRead standing.now link_frame (B.view board.old) (B.view board.new) }
     ensures does { IfOk result (λ a. DoesRead standing.now link_frame (B.view board.old) (B.view board.new) a) }
+    ensures wear { WearsRead (is_ok result) standing.now link_frame (B.view board.old) (B.view board.new) }
+    ensures formatted { IfOk result (λ a. Told (B.view board.old) (λ z. StaysFormatted z (B.view board.new))) }
+    ensures line { IfOk result (λ a. prints a ≡ true) }
     ensures uses { UsesFlash (B.view board.old) (B.view board.new) }
     ensures faults { FlashFaults result (B.view board.old) (B.view board.new) }
 {

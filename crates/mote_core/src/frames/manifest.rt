@@ -1,10 +1,12 @@
 //! MANIFEST.
 
-ghost use Rattle.std.specs.Prelude.{◌≡◌, ◌≤◌, ◌<◌, ◌^◌, ◌==◌, ◌&&◌, IfOk, Some, length, map};
-ghost use Rattle.flash_pages.specs.Board.{UsesFlash};
+ghost use Rattle.std.specs.Prelude.{◌≡◌, true, ◌≤◌, ◌<◌, ◌^◌, ◌==◌, ◌&&◌, IfOk, Some, length, map};
+ghost use Rattle.flash_pages.specs.Board.{UsesFlash, FlashFaults, Told};
 ghost use Rattle.component_package.specs.packages.Manifest.{IsManifest, IsSlotManifest, stored_of, release_of};
 ghost use Rattle.component_package.specs.mote.Machine.{held_count, is_same_entries, is_incoming};
-ghost use Rattle.flash_pages.specs.Board.{FlashFaults};
+ghost use Rattle.session_laws.specs.Lines.{prints};
+ghost use Rattle.mote_core.specs.Serving.{StaysFormatted};
+ghost use Rattle.mote_core.specs.Wear.{IsIdle};
 ghost use Rattle.install_journal.specs.Standing.{HasManifests, incoming_of};
 ghost use Rattle.mote_core.specs.Reading.{frame_of};
 ghost use Rattle.mote_core.specs.Frames.{LeavesKnown, DoesKnown};
@@ -102,6 +104,9 @@ pub(crate) fn serve_manifest<B: Board>(
     requires short { length payload.now ≤ 1024 }
     ensures works { LeavesKnown standing.now (frame_of 1 payload.now) (B.view board.old) (B.view board.new) }
     ensures does { IfOk result (λ a. DoesKnown standing.now (frame_of 1 payload.now) (B.view board.old) (B.view board.new) a) }
+    ensures idle { Told (B.view board.old) (λ z. IsIdle (B.view board.old) (B.view board.new)) }
+    ensures formatted { IfOk result (λ a. Told (B.view board.old) (λ z. StaysFormatted z (B.view board.new))) }
+    ensures line { IfOk result (λ a. prints a ≡ true) }
     ensures uses { UsesFlash (B.view board.old) (B.view board.new) }
     ensures faults { FlashFaults result (B.view board.old) (B.view board.new) }
 {

@@ -1,7 +1,10 @@
 //! PIECE.
 
-ghost use Rattle.std.specs.Prelude.{ℕ, Err, ◌≡◌, ◌≤◌, ◌<◌, IfOk, IfSome, Some, None, length, slice_get};
-ghost use Rattle.flash_pages.specs.Board.{UsesFlash, FlashFaults};
+ghost use Rattle.std.specs.Prelude.{ℕ, Err, true, ◌≡◌, ◌≤◌, ◌<◌, IfOk, IfSome, Some, None, length, slice_get};
+ghost use Rattle.flash_pages.specs.Board.{UsesFlash, FlashFaults, Told};
+ghost use Rattle.session_laws.specs.Lines.{prints};
+ghost use Rattle.mote_core.specs.Serving.{StaysFormatted};
+ghost use Rattle.mote_core.specs.Wear.{IsIdle};
 ghost use Rattle.component_package.specs.packages.Manifest.{IsSlotManifest, IsManifestEntry, stored_of};
 ghost use Rattle.install_journal.specs.Standing.{HasManifests};
 ghost use Rattle.component_store.specs.Pieces.{is_fault};
@@ -60,6 +63,9 @@ pub(crate) fn serve_piece<B: Board>(
     requires short { length payload.now ≤ 1024 }
     ensures works { LeavesKnown standing.now (frame_of 2 payload.now) (B.view board.old) (B.view board.new) }
     ensures does { IfOk result (λ a. DoesKnown standing.now (frame_of 2 payload.now) (B.view board.old) (B.view board.new) a) }
+    ensures idle { Told (B.view board.old) (λ z. IsIdle (B.view board.old) (B.view board.new)) }
+    ensures formatted { IfOk result (λ a. Told (B.view board.old) (λ z. StaysFormatted z (B.view board.new))) }
+    ensures line { IfOk result (λ a. prints a ≡ true) }
     ensures uses { UsesFlash (B.view board.old) (B.view board.new) }
     ensures faults { FlashFaults result (B.view board.old) (B.view board.new) }
 {

@@ -1,6 +1,7 @@
 //! STATUS.
 
-ghost use Rattle.std.specs.Prelude.{◌≡◌};
+ghost use Rattle.std.specs.Prelude.{◌≡◌, true};
+ghost use Rattle.session_laws.specs.Lines.{prints};
 ghost use Rattle.component_package.specs.mote.Machine.{Mote, step};
 ghost use Rattle.install_journal.specs.Standing.{IsOfMote};
 ghost use Rattle.mote_core.specs.Frames.{status_frame, number_of, stage_of};
@@ -36,7 +37,8 @@ fn stage_number(standing: &Standing) -> u8
 
 /// The release that boots, what comes in and how far it is.
 pub(crate) fn status_of(standing: &Standing) -> Answer
-    ensures { (t : Mote) → IsOfMote t standing.now → result ≡ (step t status_frame).answer }
+    ensures answer { (t : Mote) → IsOfMote t standing.now → result ≡ (step t status_frame).answer }
+    ensures line { prints result ≡ true }
 {
     let current = standing.current.manifest.release;
     if standing.pending {

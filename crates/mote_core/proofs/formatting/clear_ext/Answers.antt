@@ -1,4 +1,4 @@
-use Rattle.std.proofs.Common.{◌≡◌, ◌+◌, Some, refl, ◌∙◌, ap, subst, ℕ, arith}
+use Rattle.std.proofs.Common.{◌≡◌, ◌+◌, Some, refl, ◌∙◌, ap, ℕ, arith}
 use Rattle.flash_pages.proofs.Runs.{flash_starts, uses_uses, starts, weaker}
 use Rattle.mote_core.specs.Format.{cleared, Clears}
 use Rattle.mote_core.proofs.Emptying.{clears_none, clears_more, cleared_more}

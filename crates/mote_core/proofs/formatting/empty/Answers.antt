@@ -1,5 +1,4 @@
-use Rattle.std.proofs.Common.{◌≡◌, Some, refl, ◌∙◌, ap}
-use Rattle.flash_pages.proofs.Runs.{uses_uses}
+use Rattle.std.proofs.Common.{Some, ◌∙◌, ap}
 use Rattle.mote_core.specs.Format.{cleared}
 use Rattle.mote_core.proofs.Emptying.{ready, ready_opened, stops_clear, stops_blank, stops_gate}
 use Rattle.mote_core.proofs.formatting.empty.Goals as goal

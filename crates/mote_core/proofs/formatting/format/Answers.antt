@@ -1,4 +1,3 @@
-use Rattle.std.proofs.Common.{◌≡◌, Some, refl, ◌∙◌, ap}
 use Rattle.mote_core.specs.Format.{emptied}
 use Rattle.mote_core.proofs.Emptying.{sends_line, has_formatted}
 use Rattle.mote_core.proofs.formatting.format.Goals as goal

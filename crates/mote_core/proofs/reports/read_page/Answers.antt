@@ -1,4 +1,4 @@
-use Rattle.std.proofs.Common.{◌≡◌, [], Bool, get_or, ◌∙◌, sym as flip, ap}
+use Rattle.std.proofs.Common.{[], Bool, get_or, ◌∙◌, sym as flip, ap}
 use Rattle.mote_core.specs.Commands.{image_pages}
 use Rattle.mote_core.proofs.Images.{staged_page}
 use Rattle.mote_core.proofs.reports.read_page.Goals as goal

@@ -1,4 +1,4 @@
-use Rattle.std.proofs.Common.{◌≡◌, [], Err, refl, ◌∙◌, sym as flip, subst}
+use Rattle.std.proofs.Common.{[], Err, refl, ◌∙◌, sym as flip, subst}
 use Rattle.std.specs.List.{concat}
 use Rattle.component_package.specs.mote.Sides.{is_pending}
 use Rattle.install_journal.specs.Steps.{parts}

@@ -1,4 +1,4 @@
-use Rattle.std.proofs.Common.{◌≡◌, ◌+◌, Some, refl, ◌∙◌, ap, arith}
+use Rattle.std.proofs.Common.{Some, refl, ◌∙◌, ap, arith}
 use Rattle.std.specs.List.{concat}
 use Rattle.mote_core.specs.Commands.{image_pages}
 use Rattle.mote_core.proofs.Images.{sends_starts, sends_read, sends_not, sends_page, sent_none, sent_page, sent_all, length-image, pages_sent, flash_not_done, line_not_done}

@@ -29,7 +29,7 @@ returns-in-Err-Unformatted-clause-unformatted g c = λ s told.
 pub returns-in_default-clause-sends : goal.returns-in_default-clause-sends
 returns-in_default-clause-sends g c = λ s told t stands.
     let sent = c.send_line.ensures.sent s (c.read_state.ensures.reads.state ∙ told) in
-    subst (λ a. SendsAll (line_of a) (LineFault ≡ Ended) s (g.B.Board.view c.args.board.now) (g.B.Board.view c.send_line.new.board)) (c.status_of.ensures t (c.in-Ok.ensures.mote s told t stands))
+    subst (λ a. SendsAll (line_of a) (LineFault ≡ Ended) s (g.B.Board.view c.args.board.now) (g.B.Board.view c.send_line.new.board)) (c.status_of.ensures.answer t (c.in-Ok.ensures.mote s told t stands))
     (sends_piece (line_of c.status_of.result) _ (g.B.Board.view c.read_state.new.board) _ s sent.1 sent.0 (LineFault ≡ Ended) told c.read_state.ensures.reads c.send_line.ensures.line sent.2 sent.3 (λ same. absurd (line_not_done same)))
 
 pub returns-in_default-clause-keeps : goal.returns-in_default-clause-keeps
@@ -44,7 +44,7 @@ returns-in_default-clause-unformatted g c = λ s told. tells_formatted LineFault
 pub returns-clause-sends : goal.returns-clause-sends
 returns-clause-sends g c = λ s told t stands.
     let sent = c.in-Ok-send_line.ensures.sent s (c.read_state.ensures.reads.state ∙ told) in
-    subst (λ a. SendsAll (line_of a) (Ended ≡ Ended) s (g.B.Board.view c.args.board.now) (g.B.Board.view c.send_line.new.board)) (c.status_of.ensures t (c.in-Ok.ensures.mote s told t stands))
+    subst (λ a. SendsAll (line_of a) (Ended ≡ Ended) s (g.B.Board.view c.args.board.now) (g.B.Board.view c.send_line.new.board)) (c.status_of.ensures.answer t (c.in-Ok.ensures.mote s told t stands))
     (sends_piece (line_of c.status_of.result) _ (g.B.Board.view c.read_state.new.board) _ s sent.1 sent.0 (Ended ≡ Ended) told c.read_state.ensures.reads c.send_line.ensures.line sent.2 sent.3 (λ same. sent.4))
 
 pub returns-clause-keeps : goal.returns-clause-keeps

@@ -1,7 +1,6 @@
 use Rattle.std.proofs.Common.{inl, inr, arith, refl, ◌∙◌, sym, subst, ℕ}
 use Rattle.flash_pages.specs.Board.{Rose}
 use Rattle.component_package.specs.mote.Machine.{boot_frame}
-use Rattle.mote_core.specs.Reading.{served_of}
 use Rattle.mote_core.proofs.Runs.{boot_fault, boot_cut, boot_goes, session_on, session_over}
 use Rattle.mote_core.proofs.Turns.{never_unformatted}
 use Rattle.mote_core.proofs.run.run_session.Goals as goal

@@ -1,4 +1,4 @@
-use Rattle.std.proofs.Common.{◌≡◌, ap, refl, ◌∙◌, subst}
+use Rattle.std.proofs.Common.{ap, ◌∙◌}
 use Rattle.mote_core.specs.Reading.{served_of, payload_of, frame_of}
 use Rattle.mote_core.proofs.Turns.{stop_of, framed, turn_stopped, turn_lost, turn_fault, turn_end, turn_cut, turn_goes, never_unformatted}
 use Rattle.mote_core.proofs.run.turn.Goals as goal

@@ -1,4 +1,4 @@
-use Rattle.std.proofs.Common.{arith, ap, refl, ◌≡◌, ◌∙◌, sym, Some, List, ℕ, [], ◌+◌, take, drop}
+use Rattle.std.proofs.Common.{arith, ap, refl, ◌∙◌, sym, Some, List, ℕ, [], ◌+◌, take, drop}
 use Rattle.std.proofs.lemmas.List.{append-nil, take_rest}
 use Rattle.flash_pages.specs.State.{State, with_sent}
 use Rattle.mote_core.proofs.Streams.{sent_more, still_owed, all_sent}

@@ -4,6 +4,11 @@ use Rattle.component_package.specs.declared.answer.Answer.TheVariants.{Reboot}
 use Rattle.mote_core.proofs.Works.{idle, served_so}
 use Rattle.mote_core.proofs.Rows.{standing_row, current_number}
 use Rattle.mote_core.proofs.Commits.{abort_works, abort_does}
+use Rattle.std.proofs.Common.{arith}
+use Rattle.flash_pages.specs.State.{ext_pages}
+use Rattle.install_journal.specs.Steps.{parts, Step, any_mote, abandons, abandoned}
+use Rattle.mote_core.proofs.Wears.{idle_starts, takes_idle, low_pages}
+use Rattle.mote_core.proofs.Formats.{stays_here, stays_becomes}
 use Rattle.mote_core.proofs.frames.abort.serve_abort.Goals as goal
 
 pub returns-then-standing-clause-works : goal.returns-then-standing-clause-works
@@ -21,3 +26,18 @@ returns-clause-works g c z t told stands is = abort_works z t _ _ stands (c.aban
 
 pub returns-clause-does : goal.returns-clause-does
 returns-clause-does g c z t told stands is = abort_does z t _ stands (sym is.standing ∙ c.if-standing.false) (c.in_ok-abandon.ensures.ok z told)
+
+pub returns-then-standing-clause-idle : goal.returns-then-standing-clause-idle
+returns-then-standing-clause-idle g c z told = idle_starts (g.B.Board.view c.args.board.now)
+
+pub returns-then-standing-clause-formatted : goal.returns-then-standing-clause-formatted
+returns-then-standing-clause-formatted g c z told = stays_here z (g.B.Board.view c.args.board.now) told
+
+pub returns-in_err-abandon-clause-idle : goal.returns-in_err-abandon-clause-idle
+returns-in_err-abandon-clause-idle g c z told = takes_idle (Step any_mote (ext_pages 1 4) z) (ext_pages 1 4) 4 (g.B.Board.view c.args.board.now) (g.B.Board.view c.abandon.new.board) (low_pages 1 4 (omega arith)) (c.abandon.ensures.each z told)
+
+pub returns-clause-idle : goal.returns-clause-idle
+returns-clause-idle g c z told = takes_idle (Step any_mote (ext_pages 1 4) z) (ext_pages 1 4) 4 (g.B.Board.view c.args.board.now) (g.B.Board.view c.abandon.new.board) (low_pages 1 4 (omega arith)) (c.abandon.ensures.each z told)
+
+pub returns-clause-formatted : goal.returns-clause-formatted
+returns-clause-formatted g c z told = stays_becomes (abandoned (parts z)) any_mote abandons z (g.B.Board.view c.abandon.new.board) (c.in_ok-abandon.ensures.ok z told) (λ none. none)

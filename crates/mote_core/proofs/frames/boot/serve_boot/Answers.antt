@@ -1,9 +1,17 @@
+use Rattle.std.proofs.Common.{true, false}
 use Rattle.std.proofs.Common.{subst, Err, refl}
 use Rattle.boot_loader.specs.declared.BootFault.{BootFault}
 use Rattle.boot_loader.specs.Boots.{BootAnswers}
 use Rattle.mote_core.proofs.Boots.{boot_works, boot_does}
 use Rattle.mote_laws.proofs.Standing.{sound_parts_tell}
 use Rattle.install_journal.specs.Steps.{parts}
+use Rattle.component_package.specs.mote.Sides.{is_pending}
+use Rattle.boot_loader.specs.Boots.{booted, boot_pages, boot_programs, is_unformatted}
+use Rattle.std.proofs.Common.{ap}
+use Rattle.install_journal.specs.Steps.{Step, any_mote, boots}
+use Rattle.mote_core.proofs.Wears.{boot_wears}
+use Rattle.mote_core.proofs.Formats.{stays_here, stays_becomes, booted_unformatted}
+use Rattle.std.proofs.Common.{◌∙◌}
 use Rattle.mote_core.proofs.frames.boot.serve_boot.Goals as goal
 
 pub returns-in-Ok-clause-works : goal.returns-in-Ok-clause-works
@@ -27,3 +35,18 @@ returns-in-Ok-clause-formatted g c z told = (λ same. absurd (let q : ⊥ = cc i
 pub returns-in-Err-Unformatted-clause-formatted : goal.returns-in-Err-Unformatted-clause-formatted
 returns-in-Err-Unformatted-clause-formatted g c z told =
     (λ same. subst (λ (e : BootFault). BootAnswers (Err e) (parts z)) c.in-Err-Unformatted.field-0-is (c.in-Err-Unformatted.ensures.answer z told), λ none. refl)
+
+pub returns-in-Ok-clause-wear : goal.returns-in-Ok-clause-wear
+returns-in-Ok-clause-wear g c z t told stands = boot_wears t true z (Step any_mote (boot_pages (is_pending (parts z))) z) (boot_programs (is_pending (parts z))) (g.B.Board.view c.args.board.now) (g.B.Board.view c.boot.new.board) stands (c.boot.ensures.each z told) (c.boot.ensures.wear z told)
+
+pub returns-in-Err-Unformatted-clause-wear : goal.returns-in-Err-Unformatted-clause-wear
+returns-in-Err-Unformatted-clause-wear g c z t told stands = boot_wears t true z (Step any_mote (boot_pages (is_pending (parts z))) z) (boot_programs (is_pending (parts z))) (g.B.Board.view c.args.board.now) (g.B.Board.view c.boot.new.board) stands (c.boot.ensures.each z told) (c.boot.ensures.wear z told)
+
+pub returns-in-Err-Fault-clause-wear : goal.returns-in-Err-Fault-clause-wear
+returns-in-Err-Fault-clause-wear g c z t told stands = boot_wears t false z (Step any_mote (boot_pages (is_pending (parts z))) z) (boot_programs (is_pending (parts z))) (g.B.Board.view c.args.board.now) (g.B.Board.view c.boot.new.board) stands (c.boot.ensures.each z told) (c.boot.ensures.wear z told)
+
+pub returns-in-Ok-clause-stays : goal.returns-in-Ok-clause-stays
+returns-in-Ok-clause-stays g c z told = stays_becomes (booted (parts z)) any_mote boots z (g.B.Board.view c.boot.new.board) (c.in-Ok.ensures.ok z told) (booted_unformatted (parts z))
+
+pub returns-in-Err-Unformatted-clause-stays : goal.returns-in-Err-Unformatted-clause-stays
+returns-in-Err-Unformatted-clause-stays g c z told = stays_here z (g.B.Board.view c.boot.new.board) ((c.in-Err-Unformatted.ensures.refused (ap (λ (e : BootFault). is_unformatted (Err e)) c.in-Err-Unformatted.field-0-is)).state ∙ told)

@@ -1,10 +1,10 @@
-use Rattle.std.proofs.Common.{◌≡◌, ℕ, true, false, None, Some, Err, refl, sym, ap, ◌∙◌, subst, arith}
+use Rattle.std.proofs.Common.{ℕ, Err, refl, subst}
 use Rattle.std.proofs.lemmas.Bool.{ltb-false}
 use Rattle.symbol_merge.specs.declared.fault.MergeFault.{MergeFault}
 use Rattle.reloc_table.specs.declared.fault.BuildFault.{BuildFault}
 use Rattle.symbol_merge.specs.Stored.{set_in}
 use Rattle.symbol_merge.specs.Answers.{Counts}
-use Rattle.reloc_table.specs.List.{relocs_of, CountIs, CauseIs}
+use Rattle.reloc_table.specs.List.{relocs_of, CauseIs}
 use Rattle.component_package.specs.link.Link.{relocations_cause}
 use Rattle.mote_core.proofs.Limits.{many_symbols, many_relocs}
 use Rattle.mote_core.proofs.frames.link.count_set.Goals as goal

@@ -1,9 +1,12 @@
-use Rattle.std.proofs.Common.{◌≡◌, true, false, Option, None, Some, refl, sym, ap, ◌∙◌, subst, arith}
+use Rattle.std.proofs.Common.{true, false, Option, refl, ◌∙◌, subst, arith}
 use Rattle.component_package.specs.declared.answer.Answer.{Answer}
 use Rattle.mote_core.specs.Serving.{link_pages}
 use Rattle.mote_core.specs.Links.{IsEarlyFree, Counts, Goes}
 use Rattle.mote_core.proofs.Links.{run_idle, run_then, read_then, read_only, weaker_run}
 use Rattle.mote_core.proofs.Chain.{refused_here, refused_late, linked_all}
+use Rattle.symbol_merge.specs.Stored.{set_in}
+use Rattle.mote_core.proofs.Chain.{slots_stay}
+use Rattle.mote_core.proofs.Wears.{idle_starts, idle_reads, works_idle, works_reads, works_wider, works_then, list_idle, staged_idle, list_between, staged_between, list_before, staged_behind, staged_unmade}
 use Rattle.mote_core.proofs.frames.link.link_set.Goals as goal
 
 pub returns-in-Err-clause-links : goal.returns-in-Err-clause-links
@@ -86,3 +89,132 @@ returns-in-Ok-make_image-clause-links g c s told t linking flags =
     let first = subst (λ (o : Option Answer). Goes t c.args.set.now true true o s (g.B.Board.view c.make_areas.new.board)) c.in-Ok-None-make_areas.field-0-is (c.in-Ok-None-make_areas.ensures.goes s told_read t linking early flags) in
     let gates = first.gates refl in
     linked_all t c.args.set.now _ s (g.B.Board.view c.make_areas.new.board) (g.B.Board.view c.make_image.new.board) linking first refl (c.in-Ok-make_image.ensures.done first.end first.told t first.linking gates.rel_is (gates.img_is ∙ flags.img_is))
+
+pub returns-in-Err-clause-wears : goal.returns-in-Err-clause-wears
+returns-in-Err-clause-wears g c s told = works_idle 18 785 _ s (g.B.Board.view c.args.board.now) (g.B.Board.view c.args.board.now) told (idle_starts (g.B.Board.view c.args.board.now))
+
+pub returns-in-Err-clause-list : goal.returns-in-Err-clause-list
+returns-in-Err-clause-list g c s told t linking flags = list_idle (set_in s c.args.set.now) s (g.B.Board.view c.args.board.now) (g.B.Board.view c.args.board.now) (idle_starts (g.B.Board.view c.args.board.now))
+
+pub returns-in-Err-clause-staged : goal.returns-in-Err-clause-staged
+returns-in-Err-clause-staged g c s told t linking flags = staged_idle (set_in s c.args.set.now) s (g.B.Board.view c.args.board.now) (g.B.Board.view c.args.board.now) (idle_starts (g.B.Board.view c.args.board.now))
+
+pub returns-in-Ok-Some-clause-wears : goal.returns-in-Ok-Some-clause-wears
+returns-in-Ok-Some-clause-wears g c s told = works_idle 18 785 _ s (g.B.Board.view c.args.board.now) (g.B.Board.view c.count_set.new.board) (c.count_set.ensures.reads.state ∙ told) (idle_reads (g.B.Board.view c.args.board.now) (g.B.Board.view c.count_set.new.board) c.count_set.ensures.reads)
+
+pub returns-in-Ok-Some-clause-list : goal.returns-in-Ok-Some-clause-list
+returns-in-Ok-Some-clause-list g c s told t linking flags = list_idle (set_in s c.args.set.now) s (g.B.Board.view c.args.board.now) (g.B.Board.view c.count_set.new.board) (idle_reads (g.B.Board.view c.args.board.now) (g.B.Board.view c.count_set.new.board) c.count_set.ensures.reads)
+
+pub returns-in-Ok-Some-clause-staged : goal.returns-in-Ok-Some-clause-staged
+returns-in-Ok-Some-clause-staged g c s told t linking flags = staged_idle (set_in s c.args.set.now) s (g.B.Board.view c.args.board.now) (g.B.Board.view c.count_set.new.board) (idle_reads (g.B.Board.view c.args.board.now) (g.B.Board.view c.count_set.new.board) c.count_set.ensures.reads)
+
+pub returns-in-Err-count_set-clause-wears : goal.returns-in-Err-count_set-clause-wears
+returns-in-Err-count_set-clause-wears g c s told = works_idle 18 785 _ s (g.B.Board.view c.args.board.now) (g.B.Board.view c.count_set.new.board) (c.count_set.ensures.reads.state ∙ told) (idle_reads (g.B.Board.view c.args.board.now) (g.B.Board.view c.count_set.new.board) c.count_set.ensures.reads)
+
+pub returns-in-Err-count_set-clause-list : goal.returns-in-Err-count_set-clause-list
+returns-in-Err-count_set-clause-list g c s told t linking flags = list_idle (set_in s c.args.set.now) s (g.B.Board.view c.args.board.now) (g.B.Board.view c.count_set.new.board) (idle_reads (g.B.Board.view c.args.board.now) (g.B.Board.view c.count_set.new.board) c.count_set.ensures.reads)
+
+pub returns-in-Err-count_set-clause-staged : goal.returns-in-Err-count_set-clause-staged
+returns-in-Err-count_set-clause-staged g c s told t linking flags = staged_idle (set_in s c.args.set.now) s (g.B.Board.view c.args.board.now) (g.B.Board.view c.count_set.new.board) (idle_reads (g.B.Board.view c.args.board.now) (g.B.Board.view c.count_set.new.board) c.count_set.ensures.reads)
+
+pub returns-in-Ok-Some-make_areas-clause-wears : goal.returns-in-Ok-Some-make_areas-clause-wears
+returns-in-Ok-Some-make_areas-clause-wears g c s told =
+    let told_read = c.count_set.ensures.reads.state ∙ told in
+    works_reads 18 785 true s (g.B.Board.view c.args.board.now) (g.B.Board.view c.count_set.new.board) (g.B.Board.view c.make_areas.new.board) c.count_set.ensures.reads (works_wider 18 305 18 785 (omega arith) (omega arith) true s (g.B.Board.view c.count_set.new.board) (g.B.Board.view c.make_areas.new.board) (c.in-Ok-Some-make_areas.ensures.wears s told_read))
+
+pub returns-in-Ok-Some-make_areas-clause-list : goal.returns-in-Ok-Some-make_areas-clause-list
+returns-in-Ok-Some-make_areas-clause-list g c s told t linking flags =
+    let room = c.in-Ok.ensures.room s linking.held in
+    let told_read = c.count_set.ensures.reads.state ∙ told in
+    let counts = subst (λ (o : Option Answer). Counts o c.args.set.now s) c.in-Ok-None.field-0-is (c.in-Ok-None.ensures.counts s told linking.held room) in
+    let early : IsEarlyFree c.args.set.now s = record { room = room; symbols = counts.0; relocs = counts.1 } in
+    list_between (set_in s c.args.set.now) s (g.B.Board.view c.args.board.now) (g.B.Board.view c.count_set.new.board) (g.B.Board.view c.make_areas.new.board) (g.B.Board.view c.make_areas.new.board) (idle_reads (g.B.Board.view c.args.board.now) (g.B.Board.view c.count_set.new.board) c.count_set.ensures.reads) (c.in-Ok-Some-make_areas.ensures.spares s told_read t linking early flags) (idle_starts (g.B.Board.view c.make_areas.new.board))
+
+pub returns-in-Ok-Some-make_areas-clause-staged : goal.returns-in-Ok-Some-make_areas-clause-staged
+returns-in-Ok-Some-make_areas-clause-staged g c s told t linking flags =
+    let told_read = c.count_set.ensures.reads.state ∙ told in
+    staged_between (set_in s c.args.set.now) s (g.B.Board.view c.args.board.now) (g.B.Board.view c.count_set.new.board) (g.B.Board.view c.make_areas.new.board) (g.B.Board.view c.make_areas.new.board) (idle_reads (g.B.Board.view c.args.board.now) (g.B.Board.view c.count_set.new.board) c.count_set.ensures.reads) (staged_unmade (set_in s c.args.set.now) true s (g.B.Board.view c.count_set.new.board) (g.B.Board.view c.make_areas.new.board) (c.in-Ok-Some-make_areas.ensures.wears s told_read)) (idle_starts (g.B.Board.view c.make_areas.new.board))
+
+pub returns-in-Err-make_areas-clause-wears : goal.returns-in-Err-make_areas-clause-wears
+returns-in-Err-make_areas-clause-wears g c s told =
+    let told_read = c.count_set.ensures.reads.state ∙ told in
+    works_reads 18 785 false s (g.B.Board.view c.args.board.now) (g.B.Board.view c.count_set.new.board) (g.B.Board.view c.make_areas.new.board) c.count_set.ensures.reads (works_wider 18 305 18 785 (omega arith) (omega arith) false s (g.B.Board.view c.count_set.new.board) (g.B.Board.view c.make_areas.new.board) (c.in-Err-make_areas.ensures.wears s told_read))
+
+pub returns-in-Err-make_areas-clause-list : goal.returns-in-Err-make_areas-clause-list
+returns-in-Err-make_areas-clause-list g c s told t linking flags =
+    let room = c.in-Ok.ensures.room s linking.held in
+    let told_read = c.count_set.ensures.reads.state ∙ told in
+    let counts = subst (λ (o : Option Answer). Counts o c.args.set.now s) c.in-Ok-None.field-0-is (c.in-Ok-None.ensures.counts s told linking.held room) in
+    let early : IsEarlyFree c.args.set.now s = record { room = room; symbols = counts.0; relocs = counts.1 } in
+    list_between (set_in s c.args.set.now) s (g.B.Board.view c.args.board.now) (g.B.Board.view c.count_set.new.board) (g.B.Board.view c.make_areas.new.board) (g.B.Board.view c.make_areas.new.board) (idle_reads (g.B.Board.view c.args.board.now) (g.B.Board.view c.count_set.new.board) c.count_set.ensures.reads) (c.in-Err-make_areas.ensures.spares s told_read t linking early flags) (idle_starts (g.B.Board.view c.make_areas.new.board))
+
+pub returns-in-Err-make_areas-clause-staged : goal.returns-in-Err-make_areas-clause-staged
+returns-in-Err-make_areas-clause-staged g c s told t linking flags =
+    let told_read = c.count_set.ensures.reads.state ∙ told in
+    staged_between (set_in s c.args.set.now) s (g.B.Board.view c.args.board.now) (g.B.Board.view c.count_set.new.board) (g.B.Board.view c.make_areas.new.board) (g.B.Board.view c.make_areas.new.board) (idle_reads (g.B.Board.view c.args.board.now) (g.B.Board.view c.count_set.new.board) c.count_set.ensures.reads) (staged_unmade (set_in s c.args.set.now) false s (g.B.Board.view c.count_set.new.board) (g.B.Board.view c.make_areas.new.board) (c.in-Err-make_areas.ensures.wears s told_read)) (idle_starts (g.B.Board.view c.make_areas.new.board))
+
+pub returns-in-Ok-make_image-clause-wears : goal.returns-in-Ok-make_image-clause-wears
+returns-in-Ok-make_image-clause-wears g c s told =
+    let told_read = c.count_set.ensures.reads.state ∙ told in
+    let one = c.in-Ok-None-make_areas.ensures.wears s told_read in
+    works_reads 18 785 true s (g.B.Board.view c.args.board.now) (g.B.Board.view c.count_set.new.board) (g.B.Board.view c.make_image.new.board) c.count_set.ensures.reads
+    (works_then 18 305 785 (omega arith) (omega arith) (omega arith) true true s (g.B.Board.view c.count_set.new.board) (g.B.Board.view c.make_areas.new.board) (g.B.Board.view c.make_image.new.board) one (c.in-Ok-make_image.ensures.wears one.end one.told) (λ yes. refl))
+
+pub returns-in-Ok-make_image-clause-list : goal.returns-in-Ok-make_image-clause-list
+returns-in-Ok-make_image-clause-list g c s told t linking flags =
+    let room = c.in-Ok.ensures.room s linking.held in
+    let told_read = c.count_set.ensures.reads.state ∙ told in
+    let counts = subst (λ (o : Option Answer). Counts o c.args.set.now s) c.in-Ok-None.field-0-is (c.in-Ok-None.ensures.counts s told linking.held room) in
+    let early : IsEarlyFree c.args.set.now s = record { room = room; symbols = counts.0; relocs = counts.1 } in
+    let first = subst (λ (o : Option Answer). Goes t c.args.set.now true true o s (g.B.Board.view c.make_areas.new.board)) c.in-Ok-None-make_areas.field-0-is (c.in-Ok-None-make_areas.ensures.goes s told_read t linking early flags) in
+    let gates = first.gates refl in
+    let set = c.args.set.now in
+    let one = c.in-Ok-None-make_areas.ensures.wears s told_read in
+    list_between (set_in s set) s (g.B.Board.view c.args.board.now) (g.B.Board.view c.count_set.new.board) (g.B.Board.view c.make_image.new.board) (g.B.Board.view c.make_image.new.board) (idle_reads (g.B.Board.view c.args.board.now) (g.B.Board.view c.count_set.new.board) c.count_set.ensures.reads)
+    (list_before (set_in s set) true s one.end (g.B.Board.view c.count_set.new.board) (g.B.Board.view c.make_areas.new.board) (g.B.Board.view c.make_image.new.board) (c.in-Ok-None-make_areas.ensures.spares s told_read t linking early flags) (c.in-Ok-make_image.ensures.wears one.end one.told)) (idle_starts (g.B.Board.view c.make_image.new.board))
+
+pub returns-in-Ok-make_image-clause-staged : goal.returns-in-Ok-make_image-clause-staged
+returns-in-Ok-make_image-clause-staged g c s told t linking flags =
+    let room = c.in-Ok.ensures.room s linking.held in
+    let told_read = c.count_set.ensures.reads.state ∙ told in
+    let counts = subst (λ (o : Option Answer). Counts o c.args.set.now s) c.in-Ok-None.field-0-is (c.in-Ok-None.ensures.counts s told linking.held room) in
+    let early : IsEarlyFree c.args.set.now s = record { room = room; symbols = counts.0; relocs = counts.1 } in
+    let first = subst (λ (o : Option Answer). Goes t c.args.set.now true true o s (g.B.Board.view c.make_areas.new.board)) c.in-Ok-None-make_areas.field-0-is (c.in-Ok-None-make_areas.ensures.goes s told_read t linking early flags) in
+    let gates = first.gates refl in
+    let set = c.args.set.now in
+    let one = c.in-Ok-None-make_areas.ensures.wears s told_read in
+    staged_between (set_in s set) s (g.B.Board.view c.args.board.now) (g.B.Board.view c.count_set.new.board) (g.B.Board.view c.make_image.new.board) (g.B.Board.view c.make_image.new.board) (idle_reads (g.B.Board.view c.args.board.now) (g.B.Board.view c.count_set.new.board) c.count_set.ensures.reads)
+    (staged_behind (set_in s set) (set_in first.end set) true s first.end (g.B.Board.view c.count_set.new.board) (g.B.Board.view c.make_areas.new.board) (g.B.Board.view c.make_image.new.board) one first.told (slots_stay t set s first.end linking first.linking) (c.in-Ok-make_image.ensures.spares first.end first.told t first.linking gates.rel_is)) (idle_starts (g.B.Board.view c.make_image.new.board))
+
+pub returns-in-Err-make_image-clause-wears : goal.returns-in-Err-make_image-clause-wears
+returns-in-Err-make_image-clause-wears g c s told =
+    let told_read = c.count_set.ensures.reads.state ∙ told in
+    let one = c.in-Ok-None-make_areas.ensures.wears s told_read in
+    works_reads 18 785 false s (g.B.Board.view c.args.board.now) (g.B.Board.view c.count_set.new.board) (g.B.Board.view c.make_image.new.board) c.count_set.ensures.reads
+    (works_then 18 305 785 (omega arith) (omega arith) (omega arith) true false s (g.B.Board.view c.count_set.new.board) (g.B.Board.view c.make_areas.new.board) (g.B.Board.view c.make_image.new.board) one (c.in-Err-make_image.ensures.wears one.end one.told) (λ yes. refl))
+
+pub returns-in-Err-make_image-clause-list : goal.returns-in-Err-make_image-clause-list
+returns-in-Err-make_image-clause-list g c s told t linking flags =
+    let room = c.in-Ok.ensures.room s linking.held in
+    let told_read = c.count_set.ensures.reads.state ∙ told in
+    let counts = subst (λ (o : Option Answer). Counts o c.args.set.now s) c.in-Ok-None.field-0-is (c.in-Ok-None.ensures.counts s told linking.held room) in
+    let early : IsEarlyFree c.args.set.now s = record { room = room; symbols = counts.0; relocs = counts.1 } in
+    let first = subst (λ (o : Option Answer). Goes t c.args.set.now true true o s (g.B.Board.view c.make_areas.new.board)) c.in-Ok-None-make_areas.field-0-is (c.in-Ok-None-make_areas.ensures.goes s told_read t linking early flags) in
+    let gates = first.gates refl in
+    let set = c.args.set.now in
+    let one = c.in-Ok-None-make_areas.ensures.wears s told_read in
+    list_between (set_in s set) s (g.B.Board.view c.args.board.now) (g.B.Board.view c.count_set.new.board) (g.B.Board.view c.make_image.new.board) (g.B.Board.view c.make_image.new.board) (idle_reads (g.B.Board.view c.args.board.now) (g.B.Board.view c.count_set.new.board) c.count_set.ensures.reads)
+    (list_before (set_in s set) false s one.end (g.B.Board.view c.count_set.new.board) (g.B.Board.view c.make_areas.new.board) (g.B.Board.view c.make_image.new.board) (c.in-Ok-None-make_areas.ensures.spares s told_read t linking early flags) (c.in-Err-make_image.ensures.wears one.end one.told)) (idle_starts (g.B.Board.view c.make_image.new.board))
+
+pub returns-in-Err-make_image-clause-staged : goal.returns-in-Err-make_image-clause-staged
+returns-in-Err-make_image-clause-staged g c s told t linking flags =
+    let room = c.in-Ok.ensures.room s linking.held in
+    let told_read = c.count_set.ensures.reads.state ∙ told in
+    let counts = subst (λ (o : Option Answer). Counts o c.args.set.now s) c.in-Ok-None.field-0-is (c.in-Ok-None.ensures.counts s told linking.held room) in
+    let early : IsEarlyFree c.args.set.now s = record { room = room; symbols = counts.0; relocs = counts.1 } in
+    let first = subst (λ (o : Option Answer). Goes t c.args.set.now true true o s (g.B.Board.view c.make_areas.new.board)) c.in-Ok-None-make_areas.field-0-is (c.in-Ok-None-make_areas.ensures.goes s told_read t linking early flags) in
+    let gates = first.gates refl in
+    let set = c.args.set.now in
+    let one = c.in-Ok-None-make_areas.ensures.wears s told_read in
+    staged_between (set_in s set) s (g.B.Board.view c.args.board.now) (g.B.Board.view c.count_set.new.board) (g.B.Board.view c.make_image.new.board) (g.B.Board.view c.make_image.new.board) (idle_reads (g.B.Board.view c.args.board.now) (g.B.Board.view c.count_set.new.board) c.count_set.ensures.reads)
+    (staged_behind (set_in s set) (set_in first.end set) true s first.end (g.B.Board.view c.count_set.new.board) (g.B.Board.view c.make_areas.new.board) (g.B.Board.view c.make_image.new.board) one first.told (slots_stay t set s first.end linking first.linking) (c.in-Err-make_image.ensures.spares first.end first.told t first.linking gates.rel_is)) (idle_starts (g.B.Board.view c.make_image.new.board))

@@ -1,4 +1,4 @@
-use Rattle.std.proofs.Common.{◌≡◌, true, false, Option, None, Some, refl, sym, ap, ◌∙◌, subst, arith}
+use Rattle.std.proofs.Common.{true, false, Option, refl, sym, ◌∙◌, subst, arith}
 use Rattle.component_package.specs.declared.answer.Answer.{Answer}
 use Rattle.component_package.specs.mote.Sides.{rel}
 use Rattle.install_journal.specs.Steps.{parts}
@@ -6,6 +6,9 @@ use Rattle.mote_core.specs.Serving.{link_pages}
 use Rattle.mote_core.specs.Links.{Goes}
 use Rattle.mote_core.proofs.Links.{run_then, weaker_run}
 use Rattle.mote_core.proofs.Chain.{goes_on, goes_refused}
+use Rattle.symbol_merge.specs.Stored.{set_in}
+use Rattle.mote_core.proofs.Chain.{slots_stay}
+use Rattle.mote_core.proofs.Wears.{works_wider, works_then, list_unmade, list_behind}
 use Rattle.mote_core.proofs.frames.link.make_areas.Goals as goal
 
 pub returns-in-Ok-Some-clause-goes : goal.returns-in-Ok-Some-clause-goes
@@ -40,3 +43,39 @@ returns-in-Err-make_relocs-clause-leaves g c s told t linking p =
     let gates = first.gates refl in
     run_then link_pages s first.end 33 257 (g.B.Board.view c.args.board.now) (g.B.Board.view c.make_symbols.new.board) (g.B.Board.view c.make_relocs.new.board) first.told (c.make_symbols.ensures.leaves s told t linking (p.0, p.1.sym_is))
     (c.make_relocs.ensures.leaves first.end first.told t first.linking (gates.sym_is, p.1.rel_is ∙ sym gates.rel_is))
+
+pub returns-in-Ok-Some-clause-wears : goal.returns-in-Ok-Some-clause-wears
+returns-in-Ok-Some-clause-wears g c s told = works_wider 18 49 18 305 (omega arith) (omega arith) true s (g.B.Board.view c.args.board.now) (g.B.Board.view c.make_symbols.new.board) (c.in-Ok-Some.ensures.wears s told)
+
+pub returns-in-Ok-Some-clause-spares : goal.returns-in-Ok-Some-clause-spares
+returns-in-Ok-Some-clause-spares g c s told t linking early flags = list_unmade (set_in s c.args.set.now) true s (g.B.Board.view c.args.board.now) (g.B.Board.view c.make_symbols.new.board) (c.in-Ok-Some.ensures.wears s told)
+
+pub returns-in-Err-clause-wears : goal.returns-in-Err-clause-wears
+returns-in-Err-clause-wears g c s told = works_wider 18 49 18 305 (omega arith) (omega arith) false s (g.B.Board.view c.args.board.now) (g.B.Board.view c.make_symbols.new.board) (c.in-Err.ensures.wears s told)
+
+pub returns-in-Err-clause-spares : goal.returns-in-Err-clause-spares
+returns-in-Err-clause-spares g c s told t linking early flags = list_unmade (set_in s c.args.set.now) false s (g.B.Board.view c.args.board.now) (g.B.Board.view c.make_symbols.new.board) (c.in-Err.ensures.wears s told)
+
+pub returns-in-Ok-clause-wears : goal.returns-in-Ok-clause-wears
+returns-in-Ok-clause-wears g c s told =
+    let one = c.in-Ok-None.ensures.wears s told in
+    works_then 18 49 305 (omega arith) (omega arith) (omega arith) true true s (g.B.Board.view c.args.board.now) (g.B.Board.view c.make_symbols.new.board) (g.B.Board.view c.make_relocs.new.board) one (c.in-Ok.ensures.wears one.end one.told) (λ yes. refl)
+
+pub returns-in-Ok-clause-spares : goal.returns-in-Ok-clause-spares
+returns-in-Ok-clause-spares g c s told t linking early flags =
+    let first = subst (λ (o : Option Answer). Goes t c.args.set.now true ((parts s).gates rel) o s (g.B.Board.view c.make_symbols.new.board)) c.in-Ok-None.field-0-is (c.in-Ok-None.ensures.goes s told t linking early flags.sym_is) in
+    let gates = first.gates refl in
+    let set = c.args.set.now in
+    list_behind (set_in s set) (set_in first.end set) true s first.end (g.B.Board.view c.args.board.now) (g.B.Board.view c.make_symbols.new.board) (g.B.Board.view c.make_relocs.new.board) (c.in-Ok-None.ensures.wears s told) first.told (slots_stay t set s first.end linking first.linking) (c.in-Ok.ensures.spares first.end first.told t first.linking gates.sym_is)
+
+pub returns-in-Err-make_relocs-clause-wears : goal.returns-in-Err-make_relocs-clause-wears
+returns-in-Err-make_relocs-clause-wears g c s told =
+    let one = c.in-Ok-None.ensures.wears s told in
+    works_then 18 49 305 (omega arith) (omega arith) (omega arith) true false s (g.B.Board.view c.args.board.now) (g.B.Board.view c.make_symbols.new.board) (g.B.Board.view c.make_relocs.new.board) one (c.in-Err-make_relocs.ensures.wears one.end one.told) (λ yes. refl)
+
+pub returns-in-Err-make_relocs-clause-spares : goal.returns-in-Err-make_relocs-clause-spares
+returns-in-Err-make_relocs-clause-spares g c s told t linking early flags =
+    let first = subst (λ (o : Option Answer). Goes t c.args.set.now true ((parts s).gates rel) o s (g.B.Board.view c.make_symbols.new.board)) c.in-Ok-None.field-0-is (c.in-Ok-None.ensures.goes s told t linking early flags.sym_is) in
+    let gates = first.gates refl in
+    let set = c.args.set.now in
+    list_behind (set_in s set) (set_in first.end set) true s first.end (g.B.Board.view c.args.board.now) (g.B.Board.view c.make_symbols.new.board) (g.B.Board.view c.make_relocs.new.board) (c.in-Ok-None.ensures.wears s told) first.told (slots_stay t set s first.end linking first.linking) (c.in-Err-make_relocs.ensures.spares first.end first.told t first.linking gates.sym_is)

@@ -1,5 +1,4 @@
-use Rattle.std.proofs.Common.{◌≡◌, ℕ, List, true, false, Option, Some, None, refl, sym, ap, ◌∙◌, subst, arith, Err}
-use Rattle.component_package.specs.declared.answer.Answer.TheVariants.{Duplicate as DuplicateLine}
+use Rattle.std.proofs.Common.{◌≡◌, ℕ, true, false, Some, refl, sym, ap, ◌∙◌, subst, arith, Err}
 use Rattle.component_package.specs.link.Link.{Duplicate, duplicate_cause}
 use Rattle.symbol_merge.specs.declared.fault.MergeFault.{MergeFault}
 use Rattle.install_journal.specs.declared.gates.Stage.TheVariants as stages
@@ -8,6 +7,10 @@ use Rattle.symbol_merge.specs.Answers.{Merges}
 use Rattle.mote_core.specs.Serving.{link_pages}
 use Rattle.mote_core.proofs.Causes.{duplicate_first}
 use Rattle.mote_core.proofs.Links.{run_idle, run_then, weaker_run, stays_linking, symbols_run, symbols_found, symbols_linking, merged_vouched, merged_goes, marks_run}
+use Rattle.mote_core.proofs.Wears.{not_ok, merge_works, works_mark, becomes_alike}
+use Rattle.std.proofs.lemmas.Bool.{false≢true}
+use Rattle.symbol_merge.specs.Answers.{is_fault}
+use Rattle.install_journal.specs.Steps.{parts, Rests, Vouches, marks}
 use Rattle.mote_core.proofs.frames.link.make_symbols.Goals as goal
 
 pub returns-then-is_made-clause-goes : goal.returns-then-is_made-clause-goes
@@ -61,3 +64,23 @@ returns-clause-goes g c s told t linking early made =
     let closed = sym made ∙ c.if-is_made.false in
     let vouched = merged_vouched t set s run.end linking closed run.ends _ ((g.B.Board.view c.merge.new.board).sizes run.end run.told) early (c.in-Ok.ensures.answer s told linking.held early.symbols run.end run.told) in
     merged_goes t set s run.end linking closed run.ends (g.B.Board.view c.mark.new.board) vouched (c.in_ok-mark.ensures.ok run.end run.told)
+
+pub returns-in-Err-Duplicate-clause-wears : goal.returns-in-Err-Duplicate-clause-wears
+returns-in-Err-Duplicate-clause-wears g c s told =
+    merge_works _ true (λ yes. ap (λ (e : MergeFault). is_fault {A = ℕ} (Err e)) c.in-Err-Duplicate.field-0-is) s (g.B.Board.view c.args.board.now) (g.B.Board.view c.merge.new.board) told (c.merge.ensures.each s told) c.in-Err-Duplicate.ensures.wear
+
+pub returns-in-Err-Fault-clause-wears : goal.returns-in-Err-Fault-clause-wears
+returns-in-Err-Fault-clause-wears g c s told =
+    merge_works _ false (λ yes. absurd (false≢true yes)) s (g.B.Board.view c.args.board.now) (g.B.Board.view c.merge.new.board) told (c.merge.ensures.each s told) c.in-Err-Fault.ensures.wear
+
+pub returns-in_err-mark-clause-wears : goal.returns-in_err-mark-clause-wears
+returns-in_err-mark-clause-wears g c s told =
+    let first = merge_works false true (λ yes. refl) s (g.B.Board.view c.args.board.now) (g.B.Board.view c.merge.new.board) told (c.merge.ensures.each s told) c.in-Ok.ensures.wear in
+    works_mark (λ u. Rests u × Vouches stages.Symbols (parts first.end)) stages.Symbols 18 49 true _ s (g.B.Board.view c.args.board.now) (g.B.Board.view c.merge.new.board) (g.B.Board.view c.mark.new.board) first (c.mark.ensures.each first.end first.told)
+    (λ yes. absurd (not_ok _ c.from_residual.result c.from_residual.ensures.1 yes))
+
+pub returns-clause-wears : goal.returns-clause-wears
+returns-clause-wears g c s told =
+    let first = merge_works false true (λ yes. refl) s (g.B.Board.view c.args.board.now) (g.B.Board.view c.merge.new.board) told (c.merge.ensures.each s told) c.in-Ok.ensures.wear in
+    works_mark (λ u. Rests u × Vouches stages.Symbols (parts first.end)) stages.Symbols 18 49 true true s (g.B.Board.view c.args.board.now) (g.B.Board.view c.merge.new.board) (g.B.Board.view c.mark.new.board) first (c.mark.ensures.each first.end first.told)
+    (λ yes. (refl, λ x is. becomes_alike (λ u. Rests u × Vouches stages.Symbols (parts first.end)) (marks stages.Symbols) stages.Symbols first.end x (g.B.Board.view c.mark.new.board) (c.in_ok-mark.ensures.ok first.end first.told) is))

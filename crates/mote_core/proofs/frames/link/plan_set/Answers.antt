@@ -1,4 +1,4 @@
-use Rattle.std.proofs.Common.{◌≡◌, ℕ, None, Some, ap, refl, sym, ◌∙◌}
+use Rattle.std.proofs.Common.{Some, ap, refl, sym, ◌∙◌}
 use Rattle.layout_plan.specs.declared.plan.PlanFault.{PlanFault}
 use Rattle.layout_plan.specs.declared.plan.PlanFault.TheVariants as plans
 use Rattle.mote_core.proofs.Limits.{has_room, no_room}

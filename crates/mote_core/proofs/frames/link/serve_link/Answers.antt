@@ -1,6 +1,6 @@
-use Rattle.std.proofs.Common.{◌≡◌, true, false, ℕ, List, Option, None, Some, Err, refl, sym, ap, ◌∙◌, subst, arith}
+use Rattle.std.proofs.Common.{true, false, ℕ, List, Some, Err, refl, sym, ap, ◌∙◌, subst, arith}
 use Rattle.component_package.specs.declared.answer.Answer.TheVariants.{Reboot, NoManifest, Linked, Missing as MissingLine, BadPackage as BadPackageLine}
-use Rattle.component_package.specs.packages.Manifest.{StoredRelease, stored_of}
+use Rattle.component_package.specs.packages.Manifest.{stored_of}
 use Rattle.component_package.specs.mote.Store.{Missing, BadPackage, slots_of, set_fault}
 use Rattle.component_store.specs.declared.set.SetFault.{SetFault}
 use Rattle.component_store.specs.declared.set.StoredSet.{StoredSet}
@@ -9,6 +9,8 @@ use Rattle.mote_core.specs.Frames.{link_frame}
 use Rattle.mote_core.proofs.Works.{idle, only_read, weaker_read, served_so}
 use Rattle.mote_core.proofs.Rows.{standing_row, current_number, incoming_is, nothing_incoming}
 use Rattle.mote_core.proofs.Chain.{link_none, link_again, link_opens, linking_is, flags_are, link_works, link_does}
+use Rattle.mote_core.proofs.Wears.{idle_starts, idle_reads, idle_wears, read_wears, link_wears}
+use Rattle.mote_core.proofs.Formats.{stays_here, stays_alike}
 use Rattle.mote_core.proofs.frames.link.serve_link.Goals as goal
 
 pub returns-then-standing-clause-works : goal.returns-then-standing-clause-works
@@ -103,3 +105,65 @@ returns-in-Ok-link_set-clause-does g c z t told stands is read =
     let flags = flags_are t c.args.standing.now c.in-Some.incoming z stands read c.in-Some.is rests unlinked in
     let run = c.link_set.ensures.leaves z told_read t linking flags in
     link_does t c.in-Ok.set c.in-Ok-link_set.answer z (g.B.Board.view c.open_set.new.board) (g.B.Board.view c.link_set.new.board) linking run (c.in-Ok-link_set.ensures.links z told_read t linking flags)
+
+pub returns-then-standing-clause-wear : goal.returns-then-standing-clause-wear
+returns-then-standing-clause-wear g c z t told stands is read = idle_wears t link_frame true z (g.B.Board.view c.args.board.now) (g.B.Board.view c.args.board.now) (idle_starts (g.B.Board.view c.args.board.now))
+
+pub returns-then-standing-clause-formatted : goal.returns-then-standing-clause-formatted
+returns-then-standing-clause-formatted g c z told = stays_here z (g.B.Board.view c.args.board.now) told
+
+pub returns-in_default-clause-wear : goal.returns-in_default-clause-wear
+returns-in_default-clause-wear g c z t told stands is read = idle_wears t link_frame true z (g.B.Board.view c.args.board.now) (g.B.Board.view c.args.board.now) (idle_starts (g.B.Board.view c.args.board.now))
+
+pub returns-in_default-clause-formatted : goal.returns-in_default-clause-formatted
+returns-in_default-clause-formatted g c z told = stays_here z (g.B.Board.view c.args.board.now) told
+
+pub returns-then-standing-2-clause-wear : goal.returns-then-standing-2-clause-wear
+returns-then-standing-2-clause-wear g c z t told stands is read = idle_wears t link_frame true z (g.B.Board.view c.args.board.now) (g.B.Board.view c.args.board.now) (idle_starts (g.B.Board.view c.args.board.now))
+
+pub returns-then-standing-2-clause-formatted : goal.returns-then-standing-2-clause-formatted
+returns-then-standing-2-clause-formatted g c z told = stays_here z (g.B.Board.view c.args.board.now) told
+
+pub returns-in-Err-Missing-clause-wear : goal.returns-in-Err-Missing-clause-wear
+returns-in-Err-Missing-clause-wear g c z t told stands is read = idle_wears t link_frame true z (g.B.Board.view c.args.board.now) (g.B.Board.view c.open_set.new.board) (idle_reads (g.B.Board.view c.args.board.now) (g.B.Board.view c.open_set.new.board) c.open_set.ensures.reads)
+
+pub returns-in-Err-Missing-clause-formatted : goal.returns-in-Err-Missing-clause-formatted
+returns-in-Err-Missing-clause-formatted g c z told = stays_here z (g.B.Board.view c.open_set.new.board) (c.open_set.ensures.reads.state ∙ told)
+
+pub returns-in-Err-BadPackage-clause-wear : goal.returns-in-Err-BadPackage-clause-wear
+returns-in-Err-BadPackage-clause-wear g c z t told stands is read = idle_wears t link_frame true z (g.B.Board.view c.args.board.now) (g.B.Board.view c.open_set.new.board) (idle_reads (g.B.Board.view c.args.board.now) (g.B.Board.view c.open_set.new.board) c.open_set.ensures.reads)
+
+pub returns-in-Err-BadPackage-clause-formatted : goal.returns-in-Err-BadPackage-clause-formatted
+returns-in-Err-BadPackage-clause-formatted g c z told = stays_here z (g.B.Board.view c.open_set.new.board) (c.open_set.ensures.reads.state ∙ told)
+
+pub returns-in-Err-Fault-clause-wear : goal.returns-in-Err-Fault-clause-wear
+returns-in-Err-Fault-clause-wear g c z t told stands is read = idle_wears t link_frame false z (g.B.Board.view c.args.board.now) (g.B.Board.view c.open_set.new.board) (idle_reads (g.B.Board.view c.args.board.now) (g.B.Board.view c.open_set.new.board) c.open_set.ensures.reads)
+
+pub returns-in-Ok-link_set-clause-wear : goal.returns-in-Ok-link_set-clause-wear
+returns-in-Ok-link_set-clause-wear g c z t told stands is read =
+    let rests = sym is.standing ∙ c.if-standing.false in
+    let m = stored_of c.in-Some.incoming in
+    let coming = incoming_is t c.args.standing.now c.in-Some.incoming is c.in-Some.is in
+    let unlinked = sym is.linked ∙ c.if-standing-2.false in
+    let told_read = c.open_set.ensures.reads.state ∙ told in
+    let linking = linking_is t c.args.standing.now c.in-Some.incoming c.in-Ok.set z stands rests coming unlinked c.in-Ok.ensures.slots (c.in-Ok.ensures.holds z told) in
+    let flags = flags_are t c.args.standing.now c.in-Some.incoming z stands read c.in-Some.is rests unlinked in
+    read_wears t link_frame true z (g.B.Board.view c.args.board.now) (g.B.Board.view c.open_set.new.board) (g.B.Board.view c.link_set.new.board) c.open_set.ensures.reads
+    (link_wears t c.in-Ok.set true z (g.B.Board.view c.open_set.new.board) (g.B.Board.view c.link_set.new.board) linking (c.in-Ok-link_set.ensures.wears z told_read) (c.in-Ok-link_set.ensures.list z told_read t linking flags) (c.in-Ok-link_set.ensures.staged z told_read t linking flags))
+
+pub returns-in-Err-clause-wear : goal.returns-in-Err-clause-wear
+returns-in-Err-clause-wear g c z t told stands is read =
+    let rests = sym is.standing ∙ c.if-standing.false in
+    let m = stored_of c.in-Some.incoming in
+    let coming = incoming_is t c.args.standing.now c.in-Some.incoming is c.in-Some.is in
+    let unlinked = sym is.linked ∙ c.if-standing-2.false in
+    let told_read = c.open_set.ensures.reads.state ∙ told in
+    let linking = linking_is t c.args.standing.now c.in-Some.incoming c.in-Ok.set z stands rests coming unlinked c.in-Ok.ensures.slots (c.in-Ok.ensures.holds z told) in
+    let flags = flags_are t c.args.standing.now c.in-Some.incoming z stands read c.in-Some.is rests unlinked in
+    read_wears t link_frame false z (g.B.Board.view c.args.board.now) (g.B.Board.view c.open_set.new.board) (g.B.Board.view c.link_set.new.board) c.open_set.ensures.reads
+    (link_wears t c.in-Ok.set false z (g.B.Board.view c.open_set.new.board) (g.B.Board.view c.link_set.new.board) linking (c.in-Err.ensures.wears z told_read) (c.in-Err.ensures.list z told_read t linking flags) (c.in-Err.ensures.staged z told_read t linking flags))
+
+pub returns-in-Ok-link_set-clause-formatted : goal.returns-in-Ok-link_set-clause-formatted
+returns-in-Ok-link_set-clause-formatted g c z told =
+    let work = c.in-Ok-link_set.ensures.wears z (c.open_set.ensures.reads.state ∙ told) in
+    stays_alike z work.end (g.B.Board.view c.link_set.new.board) work.told (work.boots refl)

@@ -1,4 +1,4 @@
-use Rattle.std.proofs.Common.{◌≡◌, ◌≤◌, ◌-◌, length, take, is_some}
+use Rattle.std.proofs.Common.{◌≡◌, ◌≤◌, length, take, is_some}
 use Rattle.std.specs.Prelude.{filter}
 use Rattle.component_package.specs.packages.Manifest.{stored_of}
 use Rattle.component_package.specs.mote.Store.{held_slot}

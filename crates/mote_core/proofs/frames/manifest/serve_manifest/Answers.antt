@@ -1,13 +1,17 @@
-use Rattle.std.proofs.Common.{◌≡◌, ◌<◌, ltb, refl, sym, ap, ◌∙◌, subst, arith, ℕ}
+use Rattle.std.proofs.Common.{sym, ap, ◌∙◌, arith, ℕ}
 use Rattle.std.proofs.lemmas.Bool.{lt-ltb, le-ltb}
-use Rattle.component_package.specs.declared.answer.Answer.TheVariants.{Reboot, BadManifest, Stale, ManifestIs}
-use Rattle.component_package.specs.packages.Manifest.{StoredRelease, Release, release_of, stored_of, number_of_manifest_fault}
+use Rattle.component_package.specs.declared.answer.Answer.TheVariants.{Reboot, BadManifest}
+use Rattle.component_package.specs.packages.Manifest.{StoredRelease, release_of, stored_of}
 use Rattle.component_package.specs.mote.Store.{slots_for}
 use Rattle.component_package.specs.mote.Machine.{refuses}
 use Rattle.mote_core.specs.Reading.{frame_of}
 use Rattle.mote_core.proofs.Works.{idle, served_so}
 use Rattle.mote_core.proofs.Rows.{standing_row, current_number}
 use Rattle.mote_core.proofs.Manifests.{manifest_bad, manifest_stale, manifest_same, manifest_new, comes_next, manifest_works, manifest_does, held_is, incoming_same}
+use Rattle.component_package.specs.packages.Manifest.{stored_bytes}
+use Rattle.install_journal.specs.Steps.{parts, Step, CanTake, takes_in, taken_in, manifest_pages}
+use Rattle.mote_core.proofs.Wears.{idle_starts, takes_idle, manifest_low}
+use Rattle.mote_core.proofs.Formats.{stays_here, stays_becomes, taken_unformatted}
 use Rattle.mote_core.proofs.frames.manifest.serve_manifest.Goals as goal
 
 pub returns-then-standing-clause-works : goal.returns-then-standing-clause-works
@@ -80,3 +84,36 @@ returns-clause-does g c z t told stands is =
     (lt-ltb t.current.number r.number (omega arith)) (incoming_same t c.args.standing.now r c.is_incoming.result is c.is_incoming.ensures ∙ c.if-is_incoming.false))
     (held_is t c.args.standing.now r c.held_count.result is c.held_count.ensures.count)
     (c.in_ok-put_manifest.ensures.ok z told)
+
+pub returns-then-standing-clause-idle : goal.returns-then-standing-clause-idle
+returns-then-standing-clause-idle g c z told = idle_starts (g.B.Board.view c.args.board.now)
+
+pub returns-then-standing-clause-formatted : goal.returns-then-standing-clause-formatted
+returns-then-standing-clause-formatted g c z told = stays_here z (g.B.Board.view c.args.board.now) told
+
+pub returns-in-Err-clause-idle : goal.returns-in-Err-clause-idle
+returns-in-Err-clause-idle g c z told = idle_starts (g.B.Board.view c.args.board.now)
+
+pub returns-in-Err-clause-formatted : goal.returns-in-Err-clause-formatted
+returns-in-Err-clause-formatted g c z told = stays_here z (g.B.Board.view c.args.board.now) told
+
+pub returns-then-manifest-current-clause-idle : goal.returns-then-manifest-current-clause-idle
+returns-then-manifest-current-clause-idle g c z told = idle_starts (g.B.Board.view c.args.board.now)
+
+pub returns-then-manifest-current-clause-formatted : goal.returns-then-manifest-current-clause-formatted
+returns-then-manifest-current-clause-formatted g c z told = stays_here z (g.B.Board.view c.args.board.now) told
+
+pub returns-then-is_incoming-clause-idle : goal.returns-then-is_incoming-clause-idle
+returns-then-is_incoming-clause-idle g c z told = idle_starts (g.B.Board.view c.args.board.now)
+
+pub returns-then-is_incoming-clause-formatted : goal.returns-then-is_incoming-clause-formatted
+returns-then-is_incoming-clause-formatted g c z told = stays_here z (g.B.Board.view c.args.board.now) told
+
+pub returns-in_err-put_manifest-clause-idle : goal.returns-in_err-put_manifest-clause-idle
+returns-in_err-put_manifest-clause-idle g c z told = takes_idle (Step (CanTake (stored_of c.slot_for.result)) (manifest_pages (parts z)) z) (manifest_pages (parts z)) 10 (g.B.Board.view c.args.board.now) (g.B.Board.view c.put_manifest.new.board) (manifest_low (parts z)) (c.put_manifest.ensures.each z told)
+
+pub returns-clause-idle : goal.returns-clause-idle
+returns-clause-idle g c z told = takes_idle (Step (CanTake (stored_of c.slot_for.result)) (manifest_pages (parts z)) z) (manifest_pages (parts z)) 10 (g.B.Board.view c.args.board.now) (g.B.Board.view c.put_manifest.new.board) (manifest_low (parts z)) (c.put_manifest.ensures.each z told)
+
+pub returns-clause-formatted : goal.returns-clause-formatted
+returns-clause-formatted g c z told = stays_becomes (taken_in (stored_bytes (stored_of c.slot_for.result)) (parts z)) (CanTake (stored_of c.slot_for.result)) (takes_in (stored_of c.slot_for.result)) z (g.B.Board.view c.put_manifest.new.board) (c.in_ok-put_manifest.ensures.ok z told) (taken_unformatted (stored_bytes (stored_of c.slot_for.result)) (parts z))

@@ -1,5 +1,4 @@
-use Rattle.std.proofs.Common.{◌≡◌, ℕ, List, sym, ap, ◌∙◌, take, arith}
-use Rattle.component_package.specs.declared.manifest.Entry.{Entry}
+use Rattle.std.proofs.Common.{◌≡◌, ℕ, sym, ap, ◌∙◌, take, arith}
 use Rattle.mote_core.proofs.Manifests.{stored_entries}
 use Rattle.mote_core.proofs.frames.manifest.stored_entries.Goals as goal
 

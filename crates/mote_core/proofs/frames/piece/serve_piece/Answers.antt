@@ -1,12 +1,11 @@
-use Rattle.std.proofs.Common.{◌≡◌, ◌≤◌, ◌<◌, ℕ, List, Bool, true, false, not, ltb, length, drop, take, ◌-◌, Option, Some, None, is_some, refl, sym, ap, ◌∙◌, subst, arith, Err}
+use Rattle.std.proofs.Common.{◌≡◌, ℕ, List, false, not, ltb, length, drop, take, ◌-◌, Some, None, is_some, refl, sym, ap, ◌∙◌, subst, arith}
 use Rattle.std.specs.Prelude.{slice_index}
 use Rattle.std.proofs.lemmas.Bool.{le-ltb}
 use Rattle.std.proofs.lemmas.List.{take_rest}
-use Rattle.flash_pages.specs.State.{State, with_page}
+use Rattle.flash_pages.specs.State.{with_page}
 use Rattle.component_package.specs.mote.Page.{filled_page}
-use Rattle.flash_pages.specs.Board.{View}
-use Rattle.component_package.specs.declared.answer.Answer.TheVariants.{Reboot, NoManifest, BadPiece, Held, Piece}
-use Rattle.component_package.specs.packages.Manifest.{StoredRelease, Placed, stored_of}
+use Rattle.component_package.specs.declared.answer.Answer.TheVariants.{Reboot, NoManifest, BadPiece}
+use Rattle.component_package.specs.packages.Manifest.{StoredRelease, stored_of}
 use Rattle.component_package.specs.mote.Store.{held_slot}
 use Rattle.component_store.specs.Pieces.{piece_fault, piece_place}
 use Rattle.component_store.proofs.SlotBytes.{page_below}
@@ -15,6 +14,10 @@ use Rattle.mote_core.specs.Frames.{placed_of}
 use Rattle.mote_core.proofs.Works.{idle, only_read, weaker_read, served_so}
 use Rattle.mote_core.proofs.Rows.{standing_row, current_number, incoming_is, nothing_incoming}
 use Rattle.mote_core.proofs.Pieces.{fits, unfit, same_page, is_there, Differs, PutSlots, piece_none, piece_short, piece_no_entry, piece_unfit, piece_held, piece_there, piece_new, unlinks_first, puts_then, put_does}
+use Rattle.flash_pages.specs.State.{ext_pages}
+use Rattle.install_journal.specs.Steps.{parts, Step, any_mote, unlinks, unlinked}
+use Rattle.mote_core.proofs.Wears.{idle_starts, idle_reads, idle_then, takes_idle, low_pages, piece_idle}
+use Rattle.mote_core.proofs.Formats.{stays_here, stays_piece}
 use Rattle.mote_core.proofs.frames.piece.serve_piece.Goals as goal
 
 pub returns-then-standing-clause-works : goal.returns-then-standing-clause-works
@@ -201,3 +204,72 @@ returns-in-Ok-put_piece-clause-does g c z t told stands is =
     (ap (λ (b : List ℕ). with_page done.end (piece_place p.slot (slice_index c.args.payload.now 1)) (filled_page b)) whole)
     (subst (λ (b : List ℕ). PutSlots done.end p.slot (slice_index c.args.payload.now 1) b x) whole (c.in-Ok-put_piece.ensures.slots done.end x done.told new))
     (piece_new t c.args.payload.now m rests coming long p here fit (current ∙ c.if-is_held.false) (there ∙ ap not c.if-not-differs.false)) refl
+
+pub returns-then-standing-clause-idle : goal.returns-then-standing-clause-idle
+returns-then-standing-clause-idle g c z told = idle_starts (g.B.Board.view c.args.board.now)
+
+pub returns-then-standing-clause-formatted : goal.returns-then-standing-clause-formatted
+returns-then-standing-clause-formatted g c z told = stays_here z (g.B.Board.view c.args.board.now) told
+
+pub returns-in_default-clause-idle : goal.returns-in_default-clause-idle
+returns-in_default-clause-idle g c z told = idle_starts (g.B.Board.view c.args.board.now)
+
+pub returns-in_default-clause-formatted : goal.returns-in_default-clause-formatted
+returns-in_default-clause-formatted g c z told = stays_here z (g.B.Board.view c.args.board.now) told
+
+pub returns-then-payload-lt3-clause-idle : goal.returns-then-payload-lt3-clause-idle
+returns-then-payload-lt3-clause-idle g c z told = idle_starts (g.B.Board.view c.args.board.now)
+
+pub returns-then-payload-lt3-clause-formatted : goal.returns-then-payload-lt3-clause-formatted
+returns-then-payload-lt3-clause-formatted g c z told = stays_here z (g.B.Board.view c.args.board.now) told
+
+pub returns-in_default-entry_at-clause-idle : goal.returns-in_default-entry_at-clause-idle
+returns-in_default-entry_at-clause-idle g c z told = idle_starts (g.B.Board.view c.args.board.now)
+
+pub returns-in_default-entry_at-clause-formatted : goal.returns-in_default-entry_at-clause-formatted
+returns-in_default-entry_at-clause-formatted g c z told = stays_here z (g.B.Board.view c.args.board.now) told
+
+pub returns-then-is_failed-clause-idle : goal.returns-then-is_failed-clause-idle
+returns-then-is_failed-clause-idle g c z told = idle_reads (g.B.Board.view c.args.board.now) (g.B.Board.view c.piece_differs.new.board) c.piece_differs.ensures.reads
+
+pub returns-in-Err-clause-idle : goal.returns-in-Err-clause-idle
+returns-in-Err-clause-idle g c z told = idle_reads (g.B.Board.view c.args.board.now) (g.B.Board.view c.piece_differs.new.board) c.piece_differs.ensures.reads
+
+pub returns-in-Err-clause-formatted : goal.returns-in-Err-clause-formatted
+returns-in-Err-clause-formatted g c z told = stays_here z (g.B.Board.view c.piece_differs.new.board) (c.piece_differs.ensures.reads.state ∙ told)
+
+pub returns-then-is_held-clause-idle : goal.returns-then-is_held-clause-idle
+returns-then-is_held-clause-idle g c z told = idle_reads (g.B.Board.view c.args.board.now) (g.B.Board.view c.piece_differs.new.board) c.piece_differs.ensures.reads
+
+pub returns-then-is_held-clause-formatted : goal.returns-then-is_held-clause-formatted
+returns-then-is_held-clause-formatted g c z told = stays_here z (g.B.Board.view c.piece_differs.new.board) (c.piece_differs.ensures.reads.state ∙ told)
+
+pub returns-then-not-differs-clause-idle : goal.returns-then-not-differs-clause-idle
+returns-then-not-differs-clause-idle g c z told = idle_reads (g.B.Board.view c.args.board.now) (g.B.Board.view c.piece_differs.new.board) c.piece_differs.ensures.reads
+
+pub returns-then-not-differs-clause-formatted : goal.returns-then-not-differs-clause-formatted
+returns-then-not-differs-clause-formatted g c z told = stays_here z (g.B.Board.view c.piece_differs.new.board) (c.piece_differs.ensures.reads.state ∙ told)
+
+pub returns-in_err-unlink-clause-idle : goal.returns-in_err-unlink-clause-idle
+returns-in_err-unlink-clause-idle g c z told = idle_then (g.B.Board.view c.args.board.now) (g.B.Board.view c.piece_differs.new.board) (g.B.Board.view c.unlink.new.board) (idle_reads (g.B.Board.view c.args.board.now) (g.B.Board.view c.piece_differs.new.board) c.piece_differs.ensures.reads) (takes_idle (Step any_mote (ext_pages 2 4) z) (ext_pages 2 4) 3 (g.B.Board.view c.piece_differs.new.board) (g.B.Board.view c.unlink.new.board) (low_pages 2 4 (omega arith)) (c.unlink.ensures.each z (c.piece_differs.ensures.reads.state ∙ told)))
+
+pub returns-in-Ok-put_piece-clause-idle : goal.returns-in-Ok-put_piece-clause-idle
+returns-in-Ok-put_piece-clause-idle g c z told =
+    let done = c.in_ok-unlink.ensures.ok z (c.piece_differs.ensures.reads.state ∙ told) in
+    idle_then (g.B.Board.view c.args.board.now) (g.B.Board.view c.piece_differs.new.board) (g.B.Board.view c.put_piece.new.board) (idle_reads (g.B.Board.view c.args.board.now) (g.B.Board.view c.piece_differs.new.board) c.piece_differs.ensures.reads) (idle_then (g.B.Board.view c.piece_differs.new.board) (g.B.Board.view c.unlink.new.board) (g.B.Board.view c.put_piece.new.board) (takes_idle (Step any_mote (ext_pages 2 4) z) (ext_pages 2 4) 3 (g.B.Board.view c.piece_differs.new.board) (g.B.Board.view c.unlink.new.board) (low_pages 2 4 (omega arith)) (c.unlink.ensures.each z (c.piece_differs.ensures.reads.state ∙ told))) (piece_idle _ _ _ done.end (g.B.Board.view c.unlink.new.board) (g.B.Board.view c.put_piece.new.board) done.told c.put_piece.ensures.programs))
+
+pub returns-in-Err-put_piece-clause-idle : goal.returns-in-Err-put_piece-clause-idle
+returns-in-Err-put_piece-clause-idle g c z told =
+    let done = c.in_ok-unlink.ensures.ok z (c.piece_differs.ensures.reads.state ∙ told) in
+    idle_then (g.B.Board.view c.args.board.now) (g.B.Board.view c.piece_differs.new.board) (g.B.Board.view c.put_piece.new.board) (idle_reads (g.B.Board.view c.args.board.now) (g.B.Board.view c.piece_differs.new.board) c.piece_differs.ensures.reads) (idle_then (g.B.Board.view c.piece_differs.new.board) (g.B.Board.view c.unlink.new.board) (g.B.Board.view c.put_piece.new.board) (takes_idle (Step any_mote (ext_pages 2 4) z) (ext_pages 2 4) 3 (g.B.Board.view c.piece_differs.new.board) (g.B.Board.view c.unlink.new.board) (low_pages 2 4 (omega arith)) (c.unlink.ensures.each z (c.piece_differs.ensures.reads.state ∙ told))) (piece_idle _ _ _ done.end (g.B.Board.view c.unlink.new.board) (g.B.Board.view c.put_piece.new.board) done.told c.put_piece.ensures.programs))
+
+pub returns-in-Ok-put_piece-clause-formatted : goal.returns-in-Ok-put_piece-clause-formatted
+returns-in-Ok-put_piece-clause-formatted g c z told =
+    let three = c.if-payload-lt3.false in
+    let p = placed_of c.in-Some-entry_at.stored in
+    let whole = take_rest c.args.payload.now 2 in
+    let good : piece_fault p.entry.length (slice_index c.args.payload.now 1) (length (drop 2 c.args.payload.now)) ≡ None = ap (λ (b : List ℕ). piece_fault p.entry.length (slice_index c.args.payload.now 1) (length b)) (sym whole) ∙ sym (c.in-Ok.ensures.refused refl) in
+    let low = c.in-Some-entry_at.ensures.slot in
+    let within = page_below p.entry.length (slice_index c.args.payload.now 1) (length (drop 2 c.args.payload.now)) c.in-Some-entry_at.ensures.entry.most good in
+    let done = c.in_ok-unlink.ensures.ok z (c.piece_differs.ensures.reads.state ∙ told) in
+    stays_piece (unlinked (parts z)) any_mote unlinks z (g.B.Board.view c.unlink.new.board) (g.B.Board.view c.put_piece.new.board) p.slot (slice_index c.args.payload.now 1) _ done (λ none. none) low within (c.in-Ok-put_piece.ensures.ok done.end done.told)
