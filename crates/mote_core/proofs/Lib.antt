@@ -17,5 +17,6 @@ pub mod Chain
 pub mod FrameKinds
 pub mod Dispatch
 pub mod Runs
+pub mod Readings
 pub mod Emptying
 pub mod Images

@@ -140,7 +140,7 @@ session_on s e l frames z left served served' old now new len next session turns
     (frames ++ on.0 ∷ [], turn.end, turn.left, omega (arith, length-append frames (on.0 ∷ [])), on.1)
 
 -- the status by all frames of the session
-ends_all : (status : ℕ) (frames more : List Frame) (rest left : List ℕ) → has_end (frames ++ more) ≡ has_end more → EndsWell (length frames + length more) more rest left status
+pub ends_all : (status : ℕ) (frames more : List Frame) (rest left : List ℕ) → has_end (frames ++ more) ≡ has_end more → EndsWell (length frames + length more) more rest left status
     → EndsWell (length (frames ++ more)) (frames ++ more) rest left status
 ends_all status frames more rest left same well = record {
   status_is = well.status_is ∙ ap (λ (n : ℕ). status_of n more rest) (sym (length-append frames more))

@@ -278,7 +278,7 @@ partial_one (x ∷ []) one = tt
 partial_one (x ∷ y ∷ xs) one = absurd (omega arith)
 
 -- what was read, and that it is no frame
-rest_read : (next : Next) (status : ℕ) (payload l rest left : List ℕ) → stop_of next ≡ Some status → NextGives (Ok next) payload l rest left → (l ≡ rest ++ left) × IsPartial rest
+pub rest_read : (next : Next) (status : ℕ) (payload l rest left : List ℕ) → stop_of next ≡ Some status → NextGives (Ok next) payload l rest left → (l ≡ rest ++ left) × IsPartial rest
 rest_read (NextFrame kind) status payload l rest left stops gives = absurd (let q : ⊥ = cc in q)
 rest_read InputEnd status payload l rest left stops gives =
     (gives.0 ∙ sym (ap (λ (b : List ℕ). b ++ left) gives.2 ∙ gives.1), subst IsPartial (sym gives.2) tt)

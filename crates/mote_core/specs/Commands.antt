@@ -24,6 +24,28 @@ code_of Unformatted = 6
 code_of Budget = 7
 code_of NoCommand = 64
 
+-- a session ended with it
+abbrev pub ends_running : Status → Bool
+ends_running Ended = true
+ends_running CutFrame = true
+ends_running TooLong = true
+ends_running FlashFault = true
+ends_running LineFault = true
+ends_running Unformatted = true
+ends_running Budget = true
+ends_running NoCommand = false
+
+-- a session ended with it by what it read
+abbrev pub is_by_frames : Status → Bool
+is_by_frames Ended = true
+is_by_frames CutFrame = true
+is_by_frames TooLong = true
+is_by_frames FlashFault = false
+is_by_frames LineFault = false
+is_by_frames Unformatted = false
+is_by_frames Budget = true
+is_by_frames NoCommand = false
+
 -- it was done, or a fault ended it
 abbrev pub ends_writing : Status → Bool
 ends_writing Ended = true

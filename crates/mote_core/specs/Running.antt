@@ -1,13 +1,18 @@
 -- What a session does to its board, from the bytes that it reads: the headline as the contract of a call.
-use Rattle.std.specs.Prelude.{◌≡◌, ◌≢◌, ℕ, ◌+◌, ◌≤◌, List, [], ◌∷◌, ◌++◌, false, ◌==◌, if◌then◌else◌, Option, Some, None, length}
+use Rattle.std.specs.Prelude.{◌≡◌, ◌≢◌, ℕ, ◌+◌, ◌≤◌, List, [], ◌∷◌, ◌++◌, Bool, true, false, IsTrue, ◌==◌, if◌then◌else◌, Option, Some, None, length}
 use Rattle.flash_pages.specs.State.{State}
 use Rattle.flash_pages.specs.Board.{View, Rose}
-use Rattle.component_package.specs.mote.Frames.{Frame, is_too_long, has_end}
+use Rattle.component_package.specs.mote.Frames.{Frame, Frames, stream_of, OnlyLastEnds, IsPartial, is_too_long, has_end}
 use Rattle.component_package.specs.mote.Headline.{IsHeadline}
 use Rattle.component_package.specs.mote.Machine.{Mote, boot_frame}
 use Rattle.session_laws.specs.Sessions.{shown, LeftSince}
-use Rattle.session_laws.specs.Turns.{all_programs_of, IsTurn}
-use Rattle.install_journal.specs.Steps.{Stands}
+use Rattle.session_laws.specs.Turns.{all_programs_of, frames_of, IsTurn}
+use Rattle.mote_laws.specs.Standing.{IsUnformatted}
+use Rattle.install_journal.specs.Steps.{parts, Stands}
+use Rattle.mote_core.specs.declared.status.Status.{Status}
+use Rattle.mote_core.specs.declared.status.Status.TheVariants.{Unformatted}
+use Rattle.mote_core.specs.Serving.{StaysFormatted}
+use Rattle.mote_core.specs.Commands.{code_of, is_by_frames}
 
 -- ---- statuses
 
@@ -57,7 +62,44 @@ TurnOf count status z l t old new = IsTurn t count z l (Goes status) (IsCalm sta
 abbrev pub TakesTurn : ℕ → Option ℕ → View → View → Type 0
 TakesTurn count status old new = (z : State) (l : List ℕ) (t : Mote) → old.state ≡ Some z → old.left ≡ Some l → Stands z t → TurnOf count status z l t old new
 
+-- ---- a turn on any board
+
+-- it goes on, or ended by what was read
+abbrev pub goes_by_frames : Option Status → Bool
+goes_by_frames None = true
+goes_by_frames (Some s) = is_by_frames s
+
+-- A turn after so many frames, with these bytes left to read before it: it read one frame or none, and a rest. Where the session ended, the status is by
+-- them; where it goes on, a frame was read that isn't END.
+pub record ReadsTurn (count : ℕ) (status : Option Status) (l : List ℕ) (new : View) : Type 0 where
+  pub frame : Option Frame
+  pub rest : List ℕ
+  pub left : List ℕ
+  pub told_left : new.left ≡ Some left
+  pub read : l ≡ stream_of (frames_of frame) ++ (rest ++ left)
+  pub each : OnlyLastEnds (frames_of frame)
+  pub partial : IsPartial rest
+  pub after_end : IsTrue (has_end (frames_of frame)) → rest ≡ []
+  pub goes : status ≡ None → (length (frames_of frame) ≡ 1) × (has_end (frames_of frame) ≡ false) × (rest ≡ [])
+  pub ends : (s : Status) → status ≡ Some s → EndsWell (count + length (frames_of frame)) (frames_of frame) rest left (code_of s)
+
+-- a turn from z doesn't end the session for want of anything to boot, and takes nothing to boot away, where there is something
+pub record StaysTold (status : Option Status) (z : State) (new : View) : Type 0 where
+  pub only : status ≡ Some Unformatted → IsUnformatted (parts z)
+  pub stays : status ≡ None → StaysFormatted z new
+
 -- ---- a session
+
+-- A session on any board that ended by what it read: these frames, and this rest.
+pub record ReadsFrames (l : List ℕ) (status : Status) (new : View) : Type 0 where
+  pub frames : List Frame
+  pub rest : List ℕ
+  pub taken : List ℕ
+  pub left : List ℕ
+  pub told_left : new.left ≡ Some left
+  pub took : l ≡ taken ++ left
+  pub read : Frames taken frames rest
+  pub ends : EndsWell (length frames) frames rest left (code_of status)
 
 -- neither count of faults rose
 pub record NoFault (old new : View) : Type 0 where

@@ -1,19 +1,18 @@
 -- What the top call does, by its words.
-use Rattle.std.specs.Prelude.{◌≡◌, ◌≢◌, ◌⊎◌, ℕ, true, List, [], ◌∷◌, codes, Option, Some, None}
+use Rattle.std.specs.Prelude.{◌≡◌, ◌≢◌, ℕ, true, List, [], ◌∷◌, codes, Option, Some, None}
 use Rattle.flash_pages.specs.State.{State}
 use Rattle.flash_pages.specs.Board.{View, Told}
 use Rattle.flash_pages.specs.Moments.{LeavesOnly}
 use Rattle.component_package.specs.mote.Lines.{line_of}
 use Rattle.component_package.specs.mote.Machine.{Mote, step}
-use Rattle.mote_laws.specs.Standing.{IsUnformatted}
-use Rattle.install_journal.specs.Steps.{parts, Stands}
+use Rattle.install_journal.specs.Steps.{Stands}
 use Rattle.mote_core.specs.declared.command.Command.{Command}
 use Rattle.mote_core.specs.declared.command.Command.TheVariants as commands
 use Rattle.mote_core.specs.declared.status.Status.{Status}
 use Rattle.mote_core.specs.declared.status.Status.TheVariants.{Ended}
 use Rattle.mote_core.specs.Frames.{status_frame}
-use Rattle.mote_core.specs.Running.{IsMain}
-use Rattle.mote_core.specs.Commands.{code_of, ends_writing, ends_reading, SameFlash, SendsAll, SendsImage, TellsUnformatted}
+use Rattle.mote_core.specs.Running.{IsMain, ReadsFrames}
+use Rattle.mote_core.specs.Commands.{code_of, ends_running, is_by_frames, ends_writing, ends_reading, SameFlash, SendsAll, SendsImage, TellsUnformatted}
 use Rattle.mote_core.specs.Format.{FormatLeaves, HasFormatted}
 
 -- ---- words
@@ -65,14 +64,16 @@ SendsStatus t done s old new = SendsAll (line_of (step t status_frame).answer) d
 abbrev pub Exits : (Status → View → View → Type 0) → ℕ → View → View → Type 0
 Exits P status old new = (ended : Status) × (status ≡ code_of ended) × P ended old new
 
--- `run` is the headline. An unformatted board ends it with 6, or with 4 where a flash fault came first; a sound one never ends it with 6 where no fault rose.
-pub record IsRun (status : ℕ) (old new : View) : Type 0 where
-  pub main : IsMain status old new
-  pub unformatted : Told old (λ s. IsUnformatted (parts s) → (status ≡ 6) ⊎ (status ≡ 4))
+-- `run` is the headline, from a sound board. On any board it ends so exactly where there is nothing to boot, and else by what it read, or a fault.
+pub record IsRun (ended : Status) (old new : View) : Type 0 where
+  pub main : IsMain (code_of ended) old new
+  pub unformatted : Told old (λ s. TellsUnformatted ended s new)
+  pub reads : (l : List ℕ) → old.left ≡ Some l → is_by_frames ended ≡ true → ReadsFrames l ended new
+  pub ends : ends_running ended ≡ true
 
 -- what a command does, with this exit status
 abbrev pub Does : Command → ℕ → View → View → Type 0
-Does commands.Run status old new = IsRun status old new
+Does commands.Run status old new = Exits IsRun status old new
 Does commands.Format status old new = Exits IsFormat status old new
 Does commands.Status status old new = Exits (IsReport SendsStatus) status old new
 Does commands.Image status old new = Exits (IsReport SendsImage) status old new

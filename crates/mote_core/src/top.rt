@@ -29,7 +29,7 @@ use flash_pages::Board;
 /// | 3 | with `run`, a frame's length is above 1,024; nothing more is read |
 /// | 4 | only where a call on a flash failed |
 /// | 5 | only where a call on the line failed |
-/// | 6 | with `run`, `status` or `image`, where the board was unformatted at entry and no flash fault came first; never on a sound board |
+/// | 6 | with `run`, `status` or `image`, exactly where there was nothing to boot at entry and no flash fault came first |
 /// | 7 | with `run`, 1,000,000 frames were served, and another byte came |
 /// | 64 | exactly where the words are no command, `rehearse NUMBER` among them; nothing is done |
 pub fn mote_main<B: Board>(words: &[Text], board: &mut B) -> u8
@@ -41,7 +41,7 @@ pub fn mote_main<B: Board>(words: &[Text], board: &mut B) -> u8
     ensures nothing { IsNoCommand words.now → board.new ≡ board.old }
 {
     match Command::of(words) {
-        Some(Command::Run) => run_session(board),
+        Some(Command::Run) => run_session(board).code(),
         Some(Command::Format) => format(board).code(),
         Some(Command::Status) => send_status(board).code(),
         Some(Command::Image) => send_image(board).code(),

@@ -67,17 +67,17 @@ sends_on piece rest at old mid new behind first there second = record {
 
 -- ---- frames, one behind the other
 
-stream_append : (fs gs : List Frame) → stream_of (fs ++ gs) ≡ stream_of fs ++ stream_of gs
+pub stream_append : (fs gs : List Frame) → stream_of (fs ++ gs) ≡ stream_of fs ++ stream_of gs
 stream_append [] gs = refl
 stream_append (f ∷ fs) gs = ap (λ (x : List ℕ). frame_bytes f ++ x) (stream_append fs gs) ∙ sym (append_assoc (frame_bytes f) (stream_of fs) (stream_of gs))
 
-end_append : (fs gs : List Frame) → has_end fs ≡ false → has_end (fs ++ gs) ≡ has_end gs
+pub end_append : (fs gs : List Frame) → has_end fs ≡ false → has_end (fs ++ gs) ≡ has_end gs
 end_append [] gs none = refl
 end_append (f ∷ fs) gs none =
     let parts = or_parts (is_end f) (has_end fs) none in
     ap (λ (b : Bool). b || has_end (fs ++ gs)) parts.0 ∙ end_append fs gs parts.1
 
-each_append : (fs gs : List Frame) → has_end fs ≡ false → OnlyLastEnds fs → OnlyLastEnds gs → OnlyLastEnds (fs ++ gs)
+pub each_append : (fs gs : List Frame) → has_end fs ≡ false → OnlyLastEnds fs → OnlyLastEnds gs → OnlyLastEnds (fs ++ gs)
 each_append [] gs none first second = second
 each_append (f ∷ fs) gs none first second =
     let parts = or_parts (is_end f) (has_end fs) none in

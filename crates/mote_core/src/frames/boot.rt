@@ -3,7 +3,7 @@
 ghost use Rattle.std.specs.Prelude.{◌≡◌, IfOk};
 ghost use Rattle.std.specs.Result.{is_ok};
 ghost use Rattle.flash_pages.specs.Board.{UsesFlash, Told};
-ghost use Rattle.component_package.specs.declared.answer.Answer.TheVariants.{Ended};
+ghost use Rattle.component_package.specs.declared.answer.Answer.TheVariants.{Ended, Unformatted};
 ghost use Rattle.component_package.specs.mote.Machine.{boot_frame};
 ghost use Rattle.flash_pages.specs.Board.{FlashFaults};
 ghost use Rattle.install_journal.specs.Steps.{parts};
@@ -21,6 +21,7 @@ pub(crate) fn serve_boot<B: Board>(board: &mut B) -> Result<Answer, Failed>
     ensures formatted { IfOk result (λ a. Told (B.view board.old) (λ z. TellsFormatted a (parts z))) }
     ensures stays { IfOk result (λ a. Told (B.view board.old) (λ z. StaysFormatted z (B.view board.new))) }
     ensures other { IfOk result (λ a. a ≡ Ended → ⊥) }
+    ensures nothing { IfOk result (λ a. a ≡ Unformatted → (B.view board.new).state ≡ (B.view board.old).state) }
     ensures wear { WearsWork (is_ok result) boot_frame (B.view board.old) (B.view board.new) }
     ensures uses { UsesFlash (B.view board.old) (B.view board.new) }
     ensures faults { FlashFaults result (B.view board.old) (B.view board.new) }

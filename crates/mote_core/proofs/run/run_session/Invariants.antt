@@ -5,6 +5,8 @@ use Rattle.component_package.specs.mote.Machine.{Mote}
 use Rattle.mote_core.specs.Reading.{served_of}
 use Rattle.session_laws.specs.Turns.{IsSession}
 use Rattle.install_journal.specs.Steps.{Stands}
+use Rattle.mote_core.specs.Serving.{StaysFormatted}
+use Rattle.mote_core.proofs.Readings.{IsReading}
 use Rattle.mote_core.proofs.run.run_session.Given as goal
 
 abbrev pub invariant-loop-status : goal.invariant-loop-status
@@ -14,6 +16,8 @@ invariant-loop-status g l = record {
   sessions : (s : Mote) (e : State) (bytes : List ℕ) → (g.B.Board.view l.fn.board).state ≡ Some e → (g.B.Board.view l.fn.board).left ≡ Some bytes → Stands e s
       → (frames : List Frame) × (z : State) × (left : List ℕ) × (length frames ≡ served_of l.session)
       × IsSession s e bytes frames z left (g.B.Board.view l.fn.board) (g.B.Board.view l.board);
+  stream : (bytes : List ℕ) → (g.B.Board.view l.fn.board).left ≡ Some bytes → (frames : List Frame) × (left : List ℕ) × (length frames ≡ served_of l.session) × IsReading bytes frames left (g.B.Board.view l.board);
+  formatted : (s : State) → (g.B.Board.view l.fn.board).state ≡ Some s → StaysFormatted s (g.B.Board.view l.board);
 }
 
 abbrev pub decreases-loop-status : goal.decreases-loop-status

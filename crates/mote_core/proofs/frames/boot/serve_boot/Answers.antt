@@ -50,3 +50,6 @@ returns-in-Ok-clause-stays g c z told = stays_becomes (booted (parts z)) any_mot
 
 pub returns-in-Err-Unformatted-clause-stays : goal.returns-in-Err-Unformatted-clause-stays
 returns-in-Err-Unformatted-clause-stays g c z told = stays_here z (g.B.Board.view c.boot.new.board) ((c.in-Err-Unformatted.ensures.refused (ap (λ (e : BootFault). is_unformatted (Err e)) c.in-Err-Unformatted.field-0-is)).state ∙ told)
+
+pub returns-in-Err-Unformatted-clause-nothing : goal.returns-in-Err-Unformatted-clause-nothing
+returns-in-Err-Unformatted-clause-nothing g c = λ is. (c.in-Err-Unformatted.ensures.refused (ap (λ (e : BootFault). is_unformatted (Err e)) c.in-Err-Unformatted.field-0-is)).state
