@@ -64,7 +64,8 @@ SendsStatus t done s old new = SendsAll (line_of (step t status_frame).answer) d
 abbrev pub Exits : (Status → View → View → Type 0) → ℕ → View → View → Type 0
 Exits P status old new = (ended : Status) × (status ≡ code_of ended) × P ended old new
 
--- `run` is the headline, from a sound board. On any board it ends so exactly where there is nothing to boot, and else by what it read, or a fault.
+-- `run` is the headline, from a sound board. On any board that tells its state it ends with Unformatted exactly where there is nothing to boot, and on any
+-- that tells its bytes, whatever it holds, by what it read, where neither that nor a fault ended it.
 pub record IsRun (ended : Status) (old new : View) : Type 0 where
   pub main : IsMain (code_of ended) old new
   pub unformatted : Told old (λ s. TellsUnformatted ended s new)

@@ -8,7 +8,7 @@ ghost use Rattle.flash_pages.specs.Moments.{LeavesOnly};
 ghost use Rattle.mote_core.specs.Running.{TellsFaults};
 ghost use Rattle.mote_core.specs.Commands.{code_of, ends_writing};
 ghost use Rattle.mote_core.specs.declared.status.Status.TheVariants.{Ended};
-ghost use Rattle.mote_core.specs.Format.{cleared, blanked, emptied, Clears, OnlyProg, FormatLeaves, HasFormatted};
+ghost use Rattle.mote_core.specs.Format.{cleared, blanked, Clears, OnlyProg, FormatLeaves, HasFormatted};
 
 use crate::sending::send_all;
 use crate::status::Status;
@@ -50,21 +50,6 @@ fn blank_prog<B: Board>(board: &mut B) -> Result<(), Failed>
     Ok(())
 }
 
-// Leaves an empty board, which nothing was sent of yet.
-fn empty<B: Board>(board: &mut B) -> Result<(), Failed>
-    ensures ok { OnOk result (Told (B.view board.old) (λ s.
-        (B.view board.new).state ≡ Some (emptied s))) }
-    ensures each { Told (B.view board.old) (λ s.
-        LeavesOnly (FormatLeaves s) 2529 (B.view board.old) (B.view board.new)) }
-    ensures uses { UsesFlash (B.view board.old) (B.view board.new) }
-    ensures faults { FlashFaults result (B.view board.old) (B.view board.new) }
-{
-    clear_ext(board)?;
-    blank_prog(board)?;
-    open_gate(board, Gate::Fmt)?;
-    Ok(())
-}
-
 /// The command `format`: makes an empty board, which stands for release 0 without a component, and sends `formatted`. It programs every page,
 /// whatever it holds: external page 0 first, and again last.
 ///
@@ -78,7 +63,13 @@ pub fn format<B: Board>(board: &mut B) -> Status
     ensures left { (B.view board.new).left ≡ (B.view board.old).left }
     ensures faults { TellsFaults (code_of result) (B.view board.old) (B.view board.new) }
 {
-    let Ok(()) = empty(board) else {
+    let Ok(()) = clear_ext(board) else {
+        return Status::FlashFault;
+    };
+    let Ok(()) = blank_prog(board) else {
+        return Status::FlashFault;
+    };
+    let Ok(()) = open_gate(board, Gate::Fmt) else {
         return Status::FlashFault;
     };
     let Ok(()) = send_all(board, b"formatted\n") else {
