@@ -24,4 +24,6 @@ pub use set::{SetFault, StoreFault, StoredSet};
 pub use slots::{is_held, is_same_entry, slot_for};
 
 #[cfg(test)]
+mod board_tests;
+#[cfg(test)]
 mod tests;

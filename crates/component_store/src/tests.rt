@@ -12,7 +12,7 @@ use std::alloc::{AllocError, Global};
 use std::test::Fail;
 
 // A jump to itself behind a call of symbol 16: component 1, version 1.
-const CALLER: [u8; 46] = [
+pub(super) const CALLER: [u8; 46] = [
     0x46, 0x43, 0x50, 0x31, 1, 0, 1, 0, 6, 0, 0, 0, 0, 0, 0, 0, 1, 0, 0, 0, 0, 0, 0, 0, 0, 0, 0, 0,
     0, 0, 0, 0, 0x0E, 0x94, 0, 0, 0xFF, 0xCF, 0, 0, 0, 0x12, 0x10, 0, 0, 0,
 ];
@@ -37,7 +37,7 @@ fn board(alloc: Global) -> Result<MemoryBoard, Fail> {
 }
 
 // The bytes of an entry of version 1.
-fn push_entry(
+pub(super) fn push_entry(
     into: &mut Vec<u8>,
     component: u8,
     size: u16,
@@ -50,7 +50,7 @@ fn push_entry(
 }
 
 // A manifest of release 1 over a stored one.
-fn over(current: &SlotManifest, bytes: &[u8]) -> Option<SlotManifest>
+pub(super) fn over(current: &SlotManifest, bytes: &[u8]) -> Option<SlotManifest>
     requires { IsSlotManifest current.now }
     ensures { IfSome result IsSlotManifest }
 {
@@ -64,7 +64,7 @@ fn over(current: &SlotManifest, bytes: &[u8]) -> Option<SlotManifest>
 }
 
 // The stored release of a formatted board, which has no entries.
-fn nothing() -> Option<SlotManifest>
+pub(super) fn nothing() -> Option<SlotManifest>
     ensures { IfSome result IsSlotManifest }
 {
     read_slot_pages(&[[0; 256]; 5])

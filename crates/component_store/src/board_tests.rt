@@ -1,0 +1,524 @@
+//! Each call of the board failing once, a stop at each program, and what is read of a package whose records lie over ends of pages.
+
+ghost use Rattle.std.specs.Prelude.{◌≡◌, IfSome};
+ghost use Rattle.component_package.specs.packages.Manifest.{IsSlotManifest};
+ghost use Rattle.component_store.specs.Sets.{IsSet, length_of_part};
+
+use super::*;
+use crate::tests::{CALLER, nothing, over, push_entry};
+use avr_reloc::RelocType;
+use component_package::{Export, Header, Place, Reloc, SlotManifest};
+use flash_pages::{Board, BoardPlan, Failed, MemoryBoard};
+use sha2::{Digest, Sha256};
+use std::alloc::{AllocError, Global};
+use std::test::Fail;
+
+// Component 3 has 476 bytes of code, 10 of data, 44 exports and 32 relocations. Its data, export 41, relocation 30 and the field of
+// relocation 31 lie over ends of pages.
+const SIZE: u16 = 1038;
+
+// Code is zero in its fields, and so is data.
+fn byte_of(in_init: bool, at: u32) -> u8 {
+    let is_field = if in_init { 2 <= at && at < 6 } else { at < 124 };
+    if is_field { 0 } else { (at % 199) as u8 + 1 }
+}
+
+fn export_of(i: u8) -> Export {
+    let place = match i % 4 {
+        0 => Place::Code,
+        1 => Place::Init,
+        2 => Place::Bss,
+        _ => Place::Absolute,
+    };
+    Export {
+        symbol: 16 + 3 * i as u16,
+        place,
+        weak: i % 3 == 0,
+        value: (i % 5) as u16,
+    }
+}
+
+fn reloc_of(i: u8) -> Reloc {
+    let in_init = i == 31;
+    Reloc {
+        offset: if in_init { 2 } else { 4 * i as u16 },
+        in_init,
+        weak: i % 2 == 1,
+        kind: RelocType::Abs32,
+        target: 16 + i as u16,
+        addend: -(i as i16),
+    }
+}
+
+fn push_export(into: &mut Vec<u8>, export: &Export) -> Result<(), AllocError> {
+    let place = match export.place {
+        Place::Code => 0,
+        Place::Init => 1,
+        Place::Bss => 2,
+        Place::Absolute => 3,
+    };
+    let weak = if export.weak { 128 } else { 0 };
+    into.extend_from_slice(&export.symbol.to_le_bytes())?;
+    into.extend_from_slice(&[place + weak, 0])?;
+    into.extend_from_slice(&export.value.to_le_bytes())?;
+    Ok(())
+}
+
+fn push_reloc(into: &mut Vec<u8>, reloc: &Reloc) -> Result<(), AllocError> {
+    let part = if reloc.in_init { 1 } else { 0 };
+    let weak = if reloc.weak { 128 } else { 0 };
+    into.extend_from_slice(&reloc.offset.to_le_bytes())?;
+    into.extend_from_slice(&[part + weak, 1])?;
+    into.extend_from_slice(&reloc.target.to_le_bytes())?;
+    into.extend_from_slice(&reloc.addend.to_le_bytes())?;
+    Ok(())
+}
+
+fn long_package(alloc: Global) -> Result<Vec<u8>, AllocError> {
+    let mut bytes = vec![in alloc;
+        0x46, 0x43, 0x50, 0x31, 3, 0, 1, 0, 0xDC, 1, 10, 0, 4, 0, 44, 0, 32, 0,
+    ]?;
+    bytes.extend_from_slice(&[0; 14])?;
+    for at in 0..476u32 {
+        bytes.push(byte_of(false, at))?;
+    }
+    for at in 0..10u32 {
+        bytes.push(byte_of(true, at))?;
+    }
+    for i in 0..44u8 {
+        push_export(&mut bytes, &export_of(i))?;
+    }
+    for i in 0..32u8 {
+        push_reloc(&mut bytes, &reloc_of(i))?;
+    }
+    Ok(bytes)
+}
+
+// The manifest of the caller and of component 3.
+fn manifest(alloc: Global, long: &[u8]) -> Result<Vec<u8>, AllocError> {
+    let mut bytes = vec![in alloc; 1, 0, 0, 0, 2]?;
+    push_entry(&mut bytes, 1, 46, &Sha256::digest(&CALLER))?;
+    push_entry(&mut bytes, 3, SIZE, &Sha256::digest(long))?;
+    Ok(bytes)
+}
+
+fn release(bytes: &[u8]) -> Option<SlotManifest>
+    ensures { IfSome result IsSlotManifest }
+{
+    let Some(current) = nothing() else {
+        return None;
+    };
+    over(&current, bytes)
+}
+
+// What the page of the program holds in which the power is cut.
+fn spoilt(fill: u8) -> [u8; 256] {
+    match fill {
+        0 => [0xA5; 256],
+        1 => [0; 256],
+        _ => {
+            let mut page = [0; 256];
+            for at in 0..256usize {
+                page[at] = (255 - at) as u8;
+            }
+            page
+        }
+    }
+}
+
+// This call fails, and the power is cut in this program; neither where they are 0.
+fn plan(alloc: Global, fails: u32, stop_at: u32, fill: u8) -> Result<BoardPlan, Fail> {
+    let mut fail = Vec::new(alloc);
+    fail.push(fails)?;
+    Ok(BoardPlan {
+        fail,
+        stop_at,
+        spoil: spoilt(fill),
+        chunk: 1,
+    })
+}
+
+// A page of component 3's package into slot 1, where it holds other bytes.
+fn put_page<B: Board>(board: &mut B, page: u8, long: &[u8]) -> Result<(), StoreFault> {
+    let start = 256 * page as usize;
+    let piece = match long.get(start..(start + 256).min(long.len())) {
+        Some(piece) => piece,
+        None => &[],
+    };
+    if piece_differs(board, 1, SIZE, page, piece)? {
+        put_piece(board, 1, SIZE, page, piece)?;
+    }
+    Ok(())
+}
+
+fn put_pages<B: Board>(board: &mut B, long: &[u8]) -> Result<(), StoreFault> {
+    for page in 0..5u8 {
+        put_page(board, page, long)?;
+    }
+    Ok(())
+}
+
+// A board with the caller in slot 0.
+fn with_caller(alloc: Global) -> Result<MemoryBoard, Fail> {
+    let mut board = MemoryBoard::new(alloc, &[], plan(alloc, 0, 0, 0)?, 20, 0)?;
+    let _put = put_piece(&mut board, 0, 46, 0, &CALLER);
+    Ok(board)
+}
+
+// What comes of putting pages by a plan, and then once more.
+#[derive(Clone, Copy, Debug, PartialEq, Eq)]
+struct PutAgain {
+    first: Result<(), StoreFault>,
+    // Why there is no set then.
+    found: Option<SetFault>,
+    // How many pages the second time programs, and whether there is a set behind it.
+    programs: u32,
+    opens: bool,
+}
+
+fn put_again(
+    alloc: Global,
+    release: &SlotManifest,
+    long: &[u8],
+    plan_of_first: BoardPlan,
+) -> Result<PutAgain, Fail>
+    requires { IsSlotManifest release.now }
+{
+    let mut board = with_caller(alloc)?;
+    board = board.restart(alloc, &[], plan_of_first)?;
+    let first = put_pages(&mut board, long);
+    board = board.restart(alloc, &[], plan(alloc, 0, 0, 0)?)?;
+    let found = open_set(&mut board, release).err();
+    let _second = put_pages(&mut board, long);
+    Ok(PutAgain {
+        first,
+        found,
+        programs: board.program_count(),
+        opens: open_set(&mut board, release).is_ok(),
+    })
+}
+
+// What is to come of it where the second time programs so many.
+fn mended(programs: u32) -> PutAgain {
+    let is_whole = programs == 0;
+    PutAgain {
+        first: if is_whole {
+            Ok(())
+        } else {
+            Err(StoreFault::Fault)
+        },
+        found: if is_whole {
+            None
+        } else {
+            Some(SetFault::Missing(1))
+        },
+        programs,
+        opens: true,
+    }
+}
+
+#[test]
+fn pages_are_put_again_after_a_fault(rt: HostRuntime) -> Result<(), Fail> {
+    let long = long_package(rt.alloc())?;
+    let bytes = manifest(rt.alloc(), long.as_slice())?;
+    let Some(release) = release(bytes.as_slice()) else {
+        assert!(rt; false, "no release");
+        return Ok(());
+    };
+    // The pages before that of the stop are kept, whatever it left.
+    for fill in 0..3u8 {
+        for stop_at in 1..7u32 {
+            let plan = plan(rt.alloc(), 0, stop_at, fill)?;
+            let again = put_again(rt.alloc(), &release, long.as_slice(), plan)?;
+            assert_eq!(rt; again, mended(6 - stop_at), "{stop_at} {fill}");
+        }
+    }
+    // Each page takes a read and a program.
+    for fails in 1..12u32 {
+        let plan = plan(rt.alloc(), fails, 0, 0)?;
+        let again = put_again(rt.alloc(), &release, long.as_slice(), plan)?;
+        assert_eq!(rt; again, mended(5 - (fails - 1) / 2), "{fails}");
+    }
+    Ok(())
+}
+
+// A call of the store. Where it is on a set, it is on component 3.
+#[derive(Clone, Copy, Debug, PartialEq, Eq)]
+enum Call {
+    Check,
+    CheckPackage,
+    Open,
+    Put(u8),
+    Export(u8),
+    // From this export on, so many.
+    Exports(u8, u8),
+    Reloc(u8),
+    // The caller's first relocation and then all of component 3, by one reader.
+    Relocs,
+    // Of data or else of code, from this byte on, so many.
+    Part(bool, u16, u16),
+}
+
+fn failed(fault: StoreFault) -> Result<bool, Failed> {
+    match fault {
+        StoreFault::Fault => Err(Failed),
+        _ => Ok(false),
+    }
+}
+
+fn checks<B: Board>(board: &mut B, release: &SlotManifest) -> Result<bool, Failed>
+    requires { IsSlotManifest release.now }
+{
+    let digest = release.manifest.entries[1].digest;
+    check(board, 1, SIZE, &digest)
+}
+
+fn checks_package<B: Board>(board: &mut B, release: &SlotManifest) -> Result<bool, Failed> {
+    let mut entry = release.manifest.entries[1];
+    entry.length = SIZE;
+    match check_package(board, 1, &entry) {
+        Ok(header) => Ok(header.exports == 44 && header.relocs == 32),
+        Err(fault) => failed(fault),
+    }
+}
+
+fn opens<B: Board>(board: &mut B, release: &SlotManifest) -> Result<bool, Failed>
+    requires { IsSlotManifest release.now }
+{
+    match open_set(board, release) {
+        Ok(_) => Ok(true),
+        Err(SetFault::Fault) => Err(Failed),
+        Err(_) => Ok(false),
+    }
+}
+
+fn puts<B: Board>(board: &mut B, page: u8, long: &[u8]) -> Result<bool, Failed> {
+    match put_page(board, page, long) {
+        Ok(()) => Ok(true),
+        Err(fault) => failed(fault),
+    }
+}
+
+fn is_export<B: Board>(board: &mut B, set: &StoredSet, k: u8, i: u8) -> Result<bool, Failed>
+    requires { IsSet set.now }
+{
+    if set.slots.manifest.count <= k || set.headers[k as usize].exports <= i as u16 {
+        return Ok(false);
+    }
+    let export = export_at(board, set, k, i as u16)?;
+    Ok(export == export_of(i))
+}
+
+fn is_exports<B: Board>(
+    board: &mut B,
+    set: &StoredSet,
+    k: u8,
+    i: u8,
+    count: u8,
+) -> Result<bool, Failed>
+    requires { IsSet set.now }
+{
+    if set.slots.manifest.count <= k || 44 < count {
+        return Ok(false);
+    }
+    if set.headers[k as usize].exports < i as u16 + count as u16 {
+        return Ok(false);
+    }
+    let mut exports = [export_of(255); 44];
+    exports_at(board, set, k, i as u16, &mut exports[..count as usize])?;
+    for j in 0..count {
+        if exports[j as usize] != export_of(i.saturating_add(j)) {
+            return Ok(false);
+        }
+    }
+    Ok(true)
+}
+
+fn is_reloc<B: Board>(board: &mut B, set: &StoredSet, k: u8, i: u8) -> Result<bool, Failed>
+    requires { IsSet set.now }
+{
+    if set.slots.manifest.count <= k || set.headers[k as usize].relocs <= i as u16 {
+        return Ok(false);
+    }
+    let reloc = reloc_at(board, set, k, i as u16)?;
+    Ok(reloc == reloc_of(i))
+}
+
+// By this reader.
+fn relocs<B: Board>(
+    board: &mut B,
+    set: &StoredSet,
+    table: &mut SlotReader,
+    k: u8,
+) -> Result<bool, Failed>
+    requires { IsSet set.now }
+{
+    if set.slots.manifest.count <= k {
+        return Ok(false);
+    }
+    for i in 0..set.headers[k as usize].relocs {
+        let reloc = read_reloc(board, set, table, k, i)?;
+        if k == 1 && reloc != reloc_of((i % 256) as u8) {
+            return Ok(false);
+        }
+    }
+    Ok(true)
+}
+
+fn is_relocs<B: Board>(board: &mut B, set: &StoredSet) -> Result<bool, Failed>
+    requires { IsSet set.now }
+{
+    let mut table = SlotReader::new(9);
+    let _caller = relocs(board, set, &mut table, 0)?;
+    relocs(board, set, &mut table, 1)
+}
+
+fn length(h: &Header, in_init: bool) -> u16
+    ensures { result ≡ length_of_part h.now in_init }
+{
+    if in_init { h.init } else { h.code }
+}
+
+fn is_part<B: Board>(
+    board: &mut B,
+    set: &StoredSet,
+    k: u8,
+    in_init: bool,
+    from: u16,
+    count: u16,
+) -> Result<bool, Failed>
+    requires { IsSet set.now }
+{
+    if set.slots.manifest.count <= k || 476 < count {
+        return Ok(false);
+    }
+    if (length(&set.headers[k as usize], in_init) as u32) < from as u32 + count as u32 {
+        return Ok(false);
+    }
+    let mut bytes = [0xFF; 476];
+    part_bytes(board, set, k, in_init, from, &mut bytes[..count as usize])?;
+    for j in 0..count {
+        if bytes[j as usize] != byte_of(in_init, from as u32 + j as u32) {
+            return Ok(false);
+        }
+    }
+    Ok(true)
+}
+
+// Whether the call answers as it should.
+fn ask<B: Board>(
+    board: &mut B,
+    release: &SlotManifest,
+    set: &StoredSet,
+    long: &[u8],
+    call: Call,
+) -> Result<bool, Failed>
+    requires release { IsSlotManifest release.now }
+    requires set { IsSet set.now }
+{
+    match call {
+        Call::Check => checks(board, release),
+        Call::CheckPackage => checks_package(board, release),
+        Call::Open => opens(board, release),
+        Call::Put(page) => puts(board, page, long),
+        Call::Export(i) => is_export(board, set, 1, i),
+        Call::Exports(i, count) => is_exports(board, set, 1, i, count),
+        Call::Reloc(i) => is_reloc(board, set, 1, i),
+        Call::Relocs => is_relocs(board, set),
+        Call::Part(in_init, from, count) => is_part(board, set, 1, in_init, from, count),
+    }
+}
+
+fn opened<B: Board>(board: &mut B, release: &SlotManifest) -> Option<StoredSet>
+    requires { IsSlotManifest release.now }
+    ensures { IfSome result IsSet }
+{
+    match open_set(board, release) {
+        Ok(set) => Some(set),
+        Err(_) => None,
+    }
+}
+
+// A call, how often it calls the board, and whether there is what it asks for.
+type Row = (Call, u32, bool);
+
+// The first row whose call answers otherwise, and which call of the board was to fail then. Each call of the board fails once; asked again,
+// the call answers as it does where none fails.
+fn first_wrong(alloc: Global, rows: &[Row]) -> Result<Option<(Call, u32)>, Fail> {
+    let long = long_package(alloc)?;
+    let bytes = manifest(alloc, long.as_slice())?;
+    let mut board = with_caller(alloc)?;
+    let _put = put_pages(&mut board, long.as_slice());
+    let Some(release) = release(bytes.as_slice()) else {
+        return Ok(Some((Call::Check, 0)));
+    };
+    let Some(set) = opened(&mut board, &release) else {
+        return Ok(Some((Call::Open, 0)));
+    };
+    for row in rows {
+        let (call, calls, there) = *row;
+        for fails in 1..calls.saturating_add(2) {
+            board = board.restart(alloc, &[], plan(alloc, fails, 0, 0)?)?;
+            if fails <= calls {
+                let answer = ask(&mut board, &release, &set, long.as_slice(), call);
+                if answer.is_ok() {
+                    return Ok(Some((call, fails)));
+                }
+            }
+            let answer = ask(&mut board, &release, &set, long.as_slice(), call);
+            if answer != Ok(there) {
+                return Ok(Some((call, fails)));
+            }
+        }
+    }
+    Ok(None)
+}
+
+const CHECKS: [Row; 5] = [
+    (Call::Check, 5, true),
+    (Call::CheckPackage, 7, true),
+    (Call::Open, 15, true),
+    (Call::Put(4), 1, true),
+    (Call::Put(5), 0, false),
+];
+
+// First and last, over ends of pages, and behind the last.
+const PARTS: [Row; 25] = [
+    (Call::Export(0), 1, true),
+    (Call::Export(40), 1, true),
+    (Call::Export(41), 2, true),
+    (Call::Export(43), 1, true),
+    (Call::Export(44), 0, false),
+    (Call::Exports(0, 44), 2, true),
+    (Call::Exports(41, 1), 2, true),
+    (Call::Exports(42, 2), 1, true),
+    (Call::Exports(44, 0), 0, true),
+    (Call::Exports(1, 44), 0, false),
+    (Call::Reloc(0), 1, true),
+    (Call::Reloc(29), 1, true),
+    (Call::Reloc(30), 2, true),
+    (Call::Reloc(31), 1, true),
+    (Call::Reloc(32), 0, false),
+    (Call::Relocs, 3, true),
+    (Call::Part(false, 0, 476), 2, true),
+    (Call::Part(false, 223, 2), 2, true),
+    (Call::Part(false, 475, 1), 1, true),
+    (Call::Part(false, 476, 0), 0, true),
+    (Call::Part(false, 475, 2), 0, false),
+    (Call::Part(true, 0, 10), 2, true),
+    (Call::Part(true, 3, 2), 2, true),
+    (Call::Part(true, 9, 1), 1, true),
+    (Call::Part(true, 10, 1), 0, false),
+];
+
+#[test]
+fn checks_meet_each_fault_of_the_board(rt: HostRuntime) -> Result<(), Fail> {
+    assert_eq!(rt; first_wrong(rt.alloc(), &CHECKS)?, None);
+    Ok(())
+}
+
+#[test]
+fn parts_lie_over_ends_of_pages(rt: HostRuntime) -> Result<(), Fail> {
+    assert_eq!(rt; first_wrong(rt.alloc(), &PARTS)?, None);
+    Ok(())
+}
