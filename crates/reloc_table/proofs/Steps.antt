@@ -21,7 +21,9 @@ use Rattle.component_store.specs.declared.set.StoredSet.{StoredSet}
 use Rattle.component_store.specs.declared.reader.SlotReader.{SlotReader}
 use Rattle.component_store.specs.Reader.{Keeps}
 use Rattle.component_store.specs.Sets.{IsSet, HoldsSet, HasRooms}
+use Rattle.symbol_merge.specs.declared.table.SymbolReader.{SymbolReader}
 use Rattle.symbol_merge.specs.Stored.{set_in, symbol_area, IsPlanOf}
+use Rattle.symbol_merge.specs.Lookup.{KeepsSymbols}
 use Rattle.reloc_table.specs.List.{relocs_of, HasList}
 use Rattle.reloc_table.specs.Written.{OnlyList, in_pages}
 use Rattle.reloc_table.proofs.Held.{relocs_are}
@@ -57,6 +59,19 @@ pub reader_stayed : (s x : State) (r : SlotReader) → OnlyList s x → Keeps x 
 reader_stayed s x r only keeps small =
     let outside : ext_pages 50 305 (Ext (786 + 39 * r.slot + r.page)) ≡ false = grind (arith, nat_tests) in
     keeps small ∙ only.pages.page (Ext (786 + 39 * r.slot + r.page)) outside
+
+-- and so is what is kept of the symbols
+pub symbols_stays : (s x : State) (r : SymbolReader) → OnlyList s x → KeepsSymbols s r → KeepsSymbols x r
+symbols_stays s x r only keeps = record {
+  page = λ small. let outside : ext_pages 50 305 (Ext (18 + r.page)) ≡ false = grind (arith, nat_tests) in keeps.page small ∙ sym (only.pages.page (Ext (18 + r.page)) outside);
+  firsts = λ p first at rs tells. keeps.firsts p first at rs (subst (λ (b : List ℕ). Tells b rs) (symbols_stay s x only) tells);
+}
+
+pub symbols_stayed : (s x : State) (r : SymbolReader) → OnlyList s x → KeepsSymbols x r → KeepsSymbols s r
+symbols_stayed s x r only keeps = record {
+  page = λ small. let outside : ext_pages 50 305 (Ext (18 + r.page)) ≡ false = grind (arith, nat_tests) in keeps.page small ∙ only.pages.page (Ext (18 + r.page)) outside;
+  firsts = λ p first at rs tells. keeps.firsts p first at rs (subst (λ (b : List ℕ). Tells b rs) (sym (symbols_stay s x only)) tells);
+}
 
 module _ (s : State) (sizes : IsState s) (set : StoredSet) (plan : Plan) (is : IsSet set) (rooms : HasRooms set) (planned : IsPlanOf set plan) (few : relocs_of set ≤ 8192)
     (holds : HoldsSet s set) (table : List MergedSymbol) (tells : Tells (symbol_area s) table) where

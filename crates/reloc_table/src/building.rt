@@ -17,6 +17,7 @@ ghost use Rattle.component_store.specs.Reader.{Keeps};
 ghost use Rattle.component_store.specs.Sets.{IsSet, HoldsSet};
 ghost use Rattle.flash_pages.specs.Board.{Told, FlashFaults};
 ghost use Rattle.symbol_merge.specs.Stored.{IsPlanOf, set_in, symbol_area};
+ghost use Rattle.symbol_merge.specs.Lookup.{KeepsSymbols};
 ghost use Rattle.reloc_table.specs.List.{relocs_of, HasList};
 ghost use Rattle.reloc_table.specs.Order.{rest_of, IsWithin};
 ghost use Rattle.reloc_table.specs.Written.{IsOther, IsIn, OnlyList, in_pages};
@@ -30,6 +31,7 @@ use component_store::StoredSet;
 use external_flash::program_if_different;
 use flash_pages::{Board, Failed};
 use layout_plan::Plan;
+use symbol_merge::SymbolReader;
 
 // The four bytes of S+A. On a board whose symbol area is no symbol table it may have no room; then they say 0.
 fn sum_bytes(s_plus_a: i64) -> [u8; 4]
@@ -75,6 +77,7 @@ fn put_record(page: &mut [u8; 256], j: u8, x: &Fixup)
 // The next 32 records of the list, and 0xFF behind the last.
 fn list_page<B: Board>(
     board: &mut B,
+    symbols: &mut SymbolReader,
     set: &StoredSet,
     plan: &Plan,
     cursor: &mut Cursor,
@@ -85,8 +88,8 @@ fn list_page<B: Board>(
     requires within { IsWithin set.now cursor.old }
     ensures within { OnOk result (IsWithin set.now cursor.new) }
     ensures page { OnOk result (Told (B.view board.old) (λ s. Keeps s cursor.old.table →
-        HoldsSet s set.now → (table : List MergedSymbol) → Tells (symbol_area s) table →
-        let xs = map (fixup_with (address_in table) (set_in s set.now)) (rest_of (set_in s
+        HoldsSet s set.now → KeepsSymbols s symbols.old → (table : List MergedSymbol) →
+        Tells (symbol_area s) table → let xs = map (fixup_with (address_in table) (set_in s set.now)) (rest_of (set_in s
         set.now) cursor.old) in AllByRecursion IsEntry xs →
         page.new ≡ area_bytes entry_bytes 256 (take 32 xs))) }
     ensures rest { OnOk result (Told (B.view board.old) (λ s. Keeps s cursor.old.table →
@@ -95,6 +98,8 @@ fn list_page<B: Board>(
         drop 32 (rest_of (set_in s set.now) cursor.old))) }
     ensures keeps { OnOk result (Told (B.view board.old) (λ s. Keeps s cursor.old.table →
         HoldsSet s set.now → Keeps s cursor.new.table)) }
+    ensures symbols { OnOk result (Told (B.view board.old) (λ s. KeepsSymbols s symbols.old →
+        KeepsSymbols s symbols.new)) }
     ensures reads { Reads (B.view board.old) (B.view board.new) }
     ensures faults { FlashFaults result (B.view board.old) (B.view board.new) }
 {
@@ -107,7 +112,7 @@ fn list_page<B: Board>(
         match next {
             None => return Ok(()),
             Some(site) => {
-                let Ok(x) = fixup_of(board, plan, &site) else {
+                let Ok(x) = fixup_of(board, symbols, plan, &site) else {
                     return Err(Failed);
                 };
                 put_record(page, j, &x);
@@ -141,9 +146,10 @@ pub fn build<B: Board>(board: &mut B, set: &StoredSet, plan: &Plan) -> Result<()
 {
     rooms(set);
     let mut cursor = Cursor::new();
+    let mut symbols = SymbolReader::new();
     for page in 0..256u16 {
         let mut bytes = [0xFF; 256];
-        let Ok(()) = list_page(board, set, plan, &mut cursor, &mut bytes) else {
+        let Ok(()) = list_page(board, &mut symbols, set, plan, &mut cursor, &mut bytes) else {
             return Err(Failed);
         };
         let Ok(_) = program_if_different(board, RELOCATIONS + page, &bytes) else {

@@ -12,6 +12,7 @@ ghost use Rattle.layout_plan.specs.Plan.{IsPlan};
 ghost use Rattle.component_store.specs.Sets.{IsSet, HoldsSet, header_at};
 ghost use Rattle.flash_pages.specs.Board.{Told, FlashFaultsWhere};
 ghost use Rattle.symbol_merge.specs.Stored.{IsPlanOf, set_in, symbol_area};
+ghost use Rattle.symbol_merge.specs.Lookup.{KeepsSymbols};
 ghost use Rattle.reloc_table.specs.List.{relocs_of, CountIs, CauseIs, cause_with, cause_from, is_build_fault, is_at_site};
 ghost use Rattle.reloc_table.specs.Value.{IsSomePlan};
 
@@ -22,6 +23,7 @@ use component_package::Site;
 use component_store::{SlotReader, StoredSet, read_reloc};
 use flash_pages::Board;
 use layout_plan::Plan;
+use symbol_merge::SymbolReader;
 
 // The most relocations that a list has room for.
 const MOST: u32 = 8192;
@@ -58,6 +60,7 @@ pub fn count_relocs(set: &StoredSet) -> Result<u16, BuildFault>
 // The first fault at a relocation of component `k`.
 fn check_component<B: Board>(
     board: &mut B,
+    symbols: &mut SymbolReader,
     set: &StoredSet,
     plan: &Plan,
     k: u8,
@@ -66,10 +69,12 @@ fn check_component<B: Board>(
     requires plan { IsPlanOf set.now plan.now }
     requires component { k < set.now.slots.manifest.count }
     ensures answer { is_build_fault result ≡ false → Told (B.view board.old) (λ s.
-        HoldsSet s set.now → (table : List MergedSymbol) → Tells (symbol_area s) table →
-        (c : Component) → slice_get (set_in s set.now) k ≡ Some c →
+        KeepsSymbols s symbols.old → HoldsSet s set.now → (table : List MergedSymbol) →
+        Tells (symbol_area s) table → (c : Component) → slice_get (set_in s set.now) k ≡ Some c →
         CauseIs result (first_cause (cause_with (address_in table) (set_in s set.now)) (sites_in k
         c))) }
+    ensures keeps { OnOk result (Told (B.view board.old) (λ s. KeepsSymbols s symbols.old →
+        KeepsSymbols s symbols.new)) }
     ensures kind { IfErr result (λ f. is_at_site f ≡ true) }
     ensures reads { Reads (B.view board.old) (B.view board.new) }
     ensures faults { FlashFaultsWhere (is_build_fault result) (B.view board.old) (B.view
@@ -86,7 +91,7 @@ fn check_component<B: Board>(
             index,
             reloc,
         };
-        match check_site(board, plan, &site) {
+        match check_site(board, symbols, plan, &site) {
             Ok(()) => {}
             Err(fault) => return Err(fault),
         }
@@ -113,8 +118,9 @@ pub fn check_relocs<B: Board>(board: &mut B, set: &StoredSet, plan: &Plan) -> Re
         board.new) }
 {
     rooms(set);
+    let mut symbols = SymbolReader::new();
     for k in 0..set.slots.manifest.count {
-        match check_component(board, set, plan, k) {
+        match check_component(board, &mut symbols, set, plan, k) {
             Ok(()) => {}
             Err(fault) => return Err(fault),
         }

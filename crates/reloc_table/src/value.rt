@@ -1,6 +1,6 @@
 //! What a relocation's field is to hold, by the plan of the set and the symbols in their area.
 
-ghost use Rattle.std.specs.Prelude.{◌≡◌, ◌<◌, ◌≤◌, ◌^◌, ◌+ℤ◌, pos, true, false, IfOk, IfErr, Some, None, List, ℕ, length, if◌then◌else◌};
+ghost use Rattle.std.specs.Prelude.{◌≡◌, ◌<◌, ◌≤◌, ◌^◌, ◌+ℤ◌, pos, true, false, IfOk, IfErr, OnOk, Some, None, List, ℕ, length, if◌then◌else◌};
 ghost use Rattle.std.specs.Option.{option_or};
 ghost use Rattle.flash_pages.specs.State.{State};
 ghost use Rattle.flash_pages.specs.Board.{View, Reads};
@@ -14,6 +14,7 @@ ghost use Rattle.component_package.specs.link.Pages.{address_in};
 ghost use Rattle.layout_plan.specs.Plan.{IsPlan, IsPlanned};
 ghost use Rattle.flash_pages.specs.Board.{Told, FlashFaults, FlashFaultsWhere};
 ghost use Rattle.symbol_merge.specs.Stored.{symbol_area};
+ghost use Rattle.symbol_merge.specs.Lookup.{KeepsSymbols};
 ghost use Rattle.reloc_table.specs.List.{cause_with, CauseIs, is_build_fault, is_at_site};
 ghost use Rattle.reloc_table.specs.Value.{IsSomePlan};
 
@@ -22,7 +23,7 @@ use avr_reloc::{Fixup, RangeFault, RelocType, patch_of};
 use component_package::{Place, Site};
 use flash_pages::{Board, Failed};
 use layout_plan::{Plan, linker_symbol};
-use symbol_merge::address_of;
+use symbol_merge::{SymbolReader, read_address};
 
 // Where a part of a component stands.
 fn base(plan: &Plan, k: u8, place: Place) -> u32
@@ -58,14 +59,21 @@ fn place_of(plan: &Plan, site: &Site) -> u32
 }
 
 // The value of a symbol; a weak reference to none is 0.
-fn symbol_value<B: Board>(board: &mut B, symbol: u16, weak: bool) -> Result<Option<u32>, Failed>
-    ensures answer { IfOk result (λ o. Told (B.view board.old) (λ s. (table : List MergedSymbol) →
-        Tells (symbol_area s) table →
+fn symbol_value<B: Board>(
+    board: &mut B,
+    symbols: &mut SymbolReader,
+    symbol: u16,
+    weak: bool,
+) -> Result<Option<u32>, Failed>
+    ensures answer { IfOk result (λ o. Told (B.view board.old) (λ s. KeepsSymbols s symbols.old →
+        (table : List MergedSymbol) → Tells (symbol_area s) table →
         o ≡ option_or (address_in table symbol) (if weak then Some 0 else None))) }
+    ensures keeps { OnOk result (Told (B.view board.old) (λ s. KeepsSymbols s symbols.old →
+        KeepsSymbols s symbols.new)) }
     ensures reads { Reads (B.view board.old) (B.view board.new) }
     ensures faults { FlashFaults result (B.view board.old) (B.view board.new) }
 {
-    let Ok(address) = address_of(board, symbol) else {
+    let Ok(address) = read_address(board, symbols, symbol) else {
         return Err(Failed);
     };
     if let Some(address) = address {
@@ -78,12 +86,19 @@ fn symbol_value<B: Board>(board: &mut B, symbol: u16, weak: bool) -> Result<Opti
 }
 
 // S, the value of a relocation's target.
-fn target_of<B: Board>(board: &mut B, plan: &Plan, site: &Site) -> Result<Option<u32>, Failed>
+fn target_of<B: Board>(
+    board: &mut B,
+    symbols: &mut SymbolReader,
+    plan: &Plan,
+    site: &Site,
+) -> Result<Option<u32>, Failed>
     requires plan { IsSomePlan plan.now }
     requires component { site.now.component < plan.now.count }
-    ensures answer { IfOk result (λ o. Told (B.view board.old) (λ s.
+    ensures answer { IfOk result (λ o. Told (B.view board.old) (λ s. KeepsSymbols s symbols.old →
         (set : List Component) (table : List MergedSymbol) → IsPlan (rooms_of set) plan.now →
         Tells (symbol_area s) table → o ≡ target_with (address_in table) set site.now)) }
+    ensures keeps { OnOk result (Told (B.view board.old) (λ s. KeepsSymbols s symbols.old →
+        KeepsSymbols s symbols.new)) }
     ensures reads { Reads (B.view board.old) (B.view board.new) }
     ensures faults { FlashFaults result (B.view board.old) (B.view board.new) }
 {
@@ -94,7 +109,7 @@ fn target_of<B: Board>(board: &mut B, plan: &Plan, site: &Site) -> Result<Option
         2 => Ok(Some(base(plan, site.component, Place::Bss))),
         3..=10 => Ok(Some(linker_symbol(plan, target))),
         _ => {
-            let value = symbol_value(board, target, site.reloc.weak)?;
+            let value = symbol_value(board, symbols, target, site.reloc.weak)?;
             Ok(value)
         }
     }
@@ -109,16 +124,23 @@ fn sum(target: u32, addend: i16) -> i64
 }
 
 /// The field of a relocation, with the value that it is to hold. Where its target has no value, that counts as 0.
-pub(crate) fn fixup_of<B: Board>(board: &mut B, plan: &Plan, site: &Site) -> Result<Fixup, Failed>
+pub(crate) fn fixup_of<B: Board>(
+    board: &mut B,
+    symbols: &mut SymbolReader,
+    plan: &Plan,
+    site: &Site,
+) -> Result<Fixup, Failed>
     requires plan { IsSomePlan plan.now }
     requires component { site.now.component < plan.now.count }
-    ensures fixup { IfOk result (λ x. Told (B.view board.old) (λ s.
+    ensures fixup { IfOk result (λ x. Told (B.view board.old) (λ s. KeepsSymbols s symbols.old →
         (set : List Component) (table : List MergedSymbol) → IsPlan (rooms_of set) plan.now →
         Tells (symbol_area s) table → x ≡ fixup_with (address_in table) set site.now)) }
+    ensures keeps { OnOk result (Told (B.view board.old) (λ s. KeepsSymbols s symbols.old →
+        KeepsSymbols s symbols.new)) }
     ensures reads { Reads (B.view board.old) (B.view board.new) }
     ensures faults { FlashFaults result (B.view board.old) (B.view board.new) }
 {
-    let Ok(target) = target_of(board, plan, site) else {
+    let Ok(target) = target_of(board, symbols, plan, site) else {
         return Err(Failed);
     };
     Ok(Fixup {
@@ -158,21 +180,24 @@ fn check_value(plan: &Plan, site: &Site, target: Option<u32>) -> Result<(), Buil
 /// Whether the field of a relocation can be patched: `Undefined` where its target has no value, `Range` where the field can't hold the value.
 pub(crate) fn check_site<B: Board>(
     board: &mut B,
+    symbols: &mut SymbolReader,
     plan: &Plan,
     site: &Site,
 ) -> Result<(), BuildFault>
     requires plan { IsSomePlan plan.now }
     requires component { site.now.component < plan.now.count }
     ensures answer { is_build_fault result ≡ false → Told (B.view board.old) (λ s.
-        (set : List Component) (table : List MergedSymbol) → IsPlan (rooms_of set) plan.now →
+        KeepsSymbols s symbols.old → (set : List Component) (table : List MergedSymbol) → IsPlan (rooms_of set) plan.now →
         Tells (symbol_area s) table →
         CauseIs result (cause_with (address_in table) set site.now)) }
+    ensures keeps { OnOk result (Told (B.view board.old) (λ s. KeepsSymbols s symbols.old →
+        KeepsSymbols s symbols.new)) }
     ensures kind { IfErr result (λ f. is_at_site f ≡ true) }
     ensures reads { Reads (B.view board.old) (B.view board.new) }
     ensures faults { FlashFaultsWhere (is_build_fault result) (B.view board.old) (B.view
         board.new) }
 {
-    let Ok(target) = target_of(board, plan, site) else {
+    let Ok(target) = target_of(board, symbols, plan, site) else {
         return Err(BuildFault::Fault);
     };
     check_value(plan, site, target)

@@ -13,3 +13,4 @@ pub mod Filled
 pub mod Changed
 pub mod Merged
 pub mod Found
+pub mod Readers

@@ -18,7 +18,7 @@ pub use count::count_symbols;
 pub use fault::MergeFault;
 pub use merging::merge;
 pub use planning::plan_of_set;
-pub use table::address_of;
+pub use table::{SymbolReader, address_of, read_address};
 
 #[cfg(test)]
 mod tests;

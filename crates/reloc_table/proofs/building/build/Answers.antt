@@ -13,7 +13,7 @@ use Rattle.reloc_table.specs.Written.{OnlyList, in_pages}
 use Rattle.reloc_table.proofs.Only.{only_list_starts, only_list_next, same_slots_hold, slots_stay}
 use Rattle.reloc_table.proofs.Written.{HoldsFirst, told_wears, each_read, once_read, wear_read, each_program, once_program, wear_program, spares_next, pass_next, holds_next, passed_none, wears_in, wears_other}
 use Rattle.reloc_table.proofs.Listing.{pages_count}
-use Rattle.reloc_table.proofs.Steps.{target, set_stays, reader_stays, reader_stayed, page_is, list_is}
+use Rattle.reloc_table.proofs.Steps.{target, set_stays, reader_stays, reader_stayed, symbols_stays, symbols_stayed, page_is, list_is}
 use Rattle.reloc_table.proofs.building.build.Goals as goal
 
 pub loop-page-init : goal.loop-page-init
@@ -24,6 +24,7 @@ loop-page-init g c = record {
   fault = refl;
   pass = λ s told. passed_none 50 OnlyList s (g.B.Board.view c.args.board.now) (only_list_starts s) told;
   keeps = λ s told holds. c.new-cursor.ensures.keeps s;
+  symbols = λ s told. c.new-symbols.ensures s;
   rest = λ s told holds. c.new-cursor.ensures.rest (set_in s c.args.set.now);
   holds = λ s told holds table tells x now p lt. absurd (omega (arith, lt));
   spares = λ s told holds table tells p lt free. absurd (omega (arith, lt));
@@ -57,7 +58,7 @@ returns-in_default-program_if_different-clause-wear g c = λ s told holds table 
     let holds_x = same_slots_hold s x set (slots_stay s x pass.run.ends) holds in
     let bytes_are : c.list_page.new.page ≡ target (set_in s set) table c.loop-page.page =
     page_is s sizes set c.args.plan.now c.requires.set c.rooms.ensures c.requires.plan c.requires.few holds table tells x pass.run.ends (λ (S : List Component). rest_of S c.loop-page.cursor) c.loop-page.page c.list_page.new.page c.loop-page-test.true
-    (c.loop-page.invariant.rest s told holds) (c.in-Ok.ensures.page x pass.run.told keeps_x holds_x) in
+    (c.loop-page.invariant.rest s told holds) (c.in-Ok.ensures.page x pass.run.told keeps_x holds_x (symbols_stays s x c.loop-page.symbols pass.run.ends (c.loop-page.invariant.symbols s told))) in
     let b : List ℕ = list_bytes (listed (set_in s set) table) in
     wear_program 50 305 256 refl OnlyList only_list_next s _ (g.B.Board.view c.loop-page.board) (g.B.Board.view c.list_page.new.board) c.loop-page.page c.loop-page-test.true (c.loop-page.invariant.pass s told) c.list_page.ensures.reads (g.B.Board.view c.program_if_different.new.board) c.list_page.new.page c.program_if_different.ensures.programs
     (in_pages 256 b) (pages_count b) bytes_are (c.loop-page.invariant.spares s told holds table tells) told
@@ -77,6 +78,11 @@ loop-page-preserved g c = record {
       let keeps_x = reader_stays s x c.loop-page.cursor.table pass.run.ends (c.loop-page.invariant.keeps s told holds) in
       let holds_x = same_slots_hold s x set (slots_stay s x pass.run.ends) holds in
       reader_stayed s x c.list_page.new.cursor.table pass.run.ends (c.in-Ok.ensures.keeps x pass.run.told keeps_x holds_x);
+  symbols = λ s told.
+      let pass = c.loop-page.invariant.pass s told in
+      let x = pass.run.end in
+      let symbols_x = symbols_stays s x c.loop-page.symbols pass.run.ends (c.loop-page.invariant.symbols s told) in
+      symbols_stayed s x c.list_page.new.symbols pass.run.ends (c.in-Ok.ensures.symbols x pass.run.told symbols_x);
   rest = λ s told holds.
       let set = c.args.set.now in
       let pass = c.loop-page.invariant.pass s told in
@@ -99,7 +105,7 @@ loop-page-preserved g c = record {
       let holds_x = same_slots_hold s x set (slots_stay s x pass.run.ends) holds in
       let bytes_are : c.list_page.new.page ≡ target (set_in s set) table c.loop-page.page =
       page_is s sizes set c.args.plan.now c.requires.set c.rooms.ensures c.requires.plan c.requires.few holds table tells x pass.run.ends (λ (S : List Component). rest_of S c.loop-page.cursor) c.loop-page.page c.list_page.new.page c.loop-page-test.true
-      (c.loop-page.invariant.rest s told holds) (c.in-Ok.ensures.page x pass.run.told keeps_x holds_x) in
+      (c.loop-page.invariant.rest s told holds) (c.in-Ok.ensures.page x pass.run.told keeps_x holds_x (symbols_stays s x c.loop-page.symbols pass.run.ends (c.loop-page.invariant.symbols s told))) in
       holds_next 50 305 256 refl OnlyList only_list_next s _ (g.B.Board.view c.loop-page.board) (g.B.Board.view c.list_page.new.board) c.loop-page.page c.loop-page-test.true (c.loop-page.invariant.pass s told) c.list_page.ensures.reads (g.B.Board.view c.program_if_different.new.board) c.list_page.new.page c.program_if_different.ensures.programs c.in-Ok-program_if_different.ensures.ok (omega arith)
       (target (set_in s set) table) bytes_are (c.loop-page.invariant.holds s told holds table tells);
   spares = λ s told holds table tells.
@@ -111,7 +117,7 @@ loop-page-preserved g c = record {
       let holds_x = same_slots_hold s x set (slots_stay s x pass.run.ends) holds in
       let bytes_are : c.list_page.new.page ≡ target (set_in s set) table c.loop-page.page =
       page_is s sizes set c.args.plan.now c.requires.set c.rooms.ensures c.requires.plan c.requires.few holds table tells x pass.run.ends (λ (S : List Component). rest_of S c.loop-page.cursor) c.loop-page.page c.list_page.new.page c.loop-page-test.true
-      (c.loop-page.invariant.rest s told holds) (c.in-Ok.ensures.page x pass.run.told keeps_x holds_x) in
+      (c.loop-page.invariant.rest s told holds) (c.in-Ok.ensures.page x pass.run.told keeps_x holds_x (symbols_stays s x c.loop-page.symbols pass.run.ends (c.loop-page.invariant.symbols s told))) in
       spares_next 50 305 256 refl OnlyList only_list_next s _ (g.B.Board.view c.loop-page.board) (g.B.Board.view c.list_page.new.board) c.loop-page.page c.loop-page-test.true (c.loop-page.invariant.pass s told) c.list_page.ensures.reads (g.B.Board.view c.program_if_different.new.board) c.list_page.new.page c.program_if_different.ensures.programs
       (target (set_in s set) table) bytes_are (c.loop-page.invariant.spares s told holds table tells);
 }

@@ -8,6 +8,7 @@ use Rattle.component_store.specs.Reader.{Keeps}
 use Rattle.component_store.specs.Sets.{HoldsSet}
 use Rattle.flash_pages.specs.Board.{Told}
 use Rattle.symbol_merge.specs.Stored.{set_in, symbol_area}
+use Rattle.symbol_merge.specs.Lookup.{KeepsSymbols}
 use Rattle.reloc_table.specs.Order.{rest_of, IsWithin}
 use Rattle.reloc_table.specs.Written.{OnlyList}
 use Rattle.reloc_table.proofs.Written.{IsPassed, HoldsFirst, Spares}
@@ -22,6 +23,7 @@ invariant-loop-page g l = record {
   fault : (g.B.Board.view l.board).flash_faults ≡ (g.B.Board.view l.initial.board).flash_faults;
   pass : Told (g.B.Board.view l.initial.board) (λ s. IsPassed 50 OnlyList l.page s (g.B.Board.view l.initial.board) (g.B.Board.view l.board));
   keeps : Told (g.B.Board.view l.initial.board) (λ s. HoldsSet s l.set → Keeps s l.cursor.table);
+  symbols : Told (g.B.Board.view l.initial.board) (λ s. KeepsSymbols s l.symbols);
   rest : Told (g.B.Board.view l.initial.board) (λ s. HoldsSet s l.set → rest_of (set_in s l.set) l.cursor ≡ drop (32 * l.page) (in_image_order (sites_of (set_in s l.set))));
   holds : Told (g.B.Board.view l.initial.board) (λ s. HoldsSet s l.set → (table : List MergedSymbol) → Tells (symbol_area s) table →
       (x : State) → (g.B.Board.view l.board).state ≡ Some x → HoldsFirst 50 l.page x (target (set_in s l.set) table));

@@ -24,9 +24,10 @@ loop-j-init g c = record {
   reads = reads_none (g.B.Board.view c.args.board.now);
   fault = refl;
   keeps = λ s told keeps holds. keeps;
+  symbols = λ s told symbols. symbols;
   rest = λ s told keeps holds. refl;
   few = λ s told keeps holds. omega arith;
-  page = λ s told keeps holds table tells all. refl;
+  page = λ s told keeps holds symbols table tells all. refl;
 }
 
 pub returns-in_default-clause-reads : goal.returns-in_default-clause-reads
@@ -36,7 +37,7 @@ pub returns-in-None-clause-reads : goal.returns-in-None-clause-reads
 returns-in-None-clause-reads g c = reads_reads _ _ _ c.loop-j.invariant.reads c.next.ensures.reads
 
 pub returns-in-None-clause-page : goal.returns-in-None-clause-page
-returns-in-None-clause-page g c = λ s told keeps holds table tells all.
+returns-in-None-clause-page g c = λ s told keeps holds symbols table tells all.
     let set = set_in s c.args.set.now in
     let j : ℕ = c.loop-j.j in
     let r0 = rest_of set c.args.cursor.now in
@@ -46,7 +47,7 @@ returns-in-None-clause-page g c = λ s told keeps holds table tells all.
     let none : drop j r0 ≡ [] = sym (c.loop-j.invariant.rest s told keeps holds) ∙ gone.0 in
     let short : length xs ≤ j = omega (arith, length-drop j r0, ap length none, length-map r0 (fixup_with (address_in table) set)) in
     let same : take j xs ≡ take 32 xs = take_all j xs short ∙ sym (take_all 32 xs (omega (arith, short, c.loop-j.invariant.inside))) in
-    c.loop-j.invariant.page s told keeps holds table tells all ∙ ap (λ (l : List Fixup). area_bytes entry_bytes 256 l) same
+    c.loop-j.invariant.page s told keeps holds symbols table tells all ∙ ap (λ (l : List Fixup). area_bytes entry_bytes 256 l) same
 
 pub returns-in-None-clause-rest : goal.returns-in-None-clause-rest
 returns-in-None-clause-rest g c = λ s told keeps holds.
@@ -73,6 +74,7 @@ loop-j-preserved g c = record {
   reads = reads_reads _ _ _ (reads_reads _ _ _ c.loop-j.invariant.reads c.next.ensures.reads) c.fixup_of.ensures.reads;
   fault = c.in-Ok-fixup_of.ensures.faults ∙ c.in-Ok.ensures.faults ∙ c.loop-j.invariant.fault;
   keeps = λ s told keeps holds. c.in-Ok.ensures.keeps s (c.loop-j.invariant.reads.state ∙ told) (c.loop-j.invariant.keeps s told keeps holds) holds;
+  symbols = λ s told symbols. c.in-Ok-fixup_of.ensures.keeps s (c.next.ensures.reads.state ∙ (c.loop-j.invariant.reads.state ∙ told)) (c.loop-j.invariant.symbols s told symbols);
   rest = λ s told keeps holds.
       let set = set_in s c.args.set.now in
       let site = c.in-Ok.ensures.site s (c.loop-j.invariant.reads.state ∙ told) (c.loop-j.invariant.keeps s told keeps holds) holds in
@@ -83,7 +85,7 @@ loop-j-preserved g c = record {
       let site = c.in-Ok.ensures.site s (c.loop-j.invariant.reads.state ∙ told) (c.loop-j.invariant.keeps s told keeps holds) holds in
       let next = subst (λ (o : Option Site). IsNext o (rest_of set c.loop-j.cursor) (rest_of set c.next.new.self)) c.in-Some.is site in
       omega (arith, (next_of (rest_of set c.args.cursor.now) c.loop-j.j c.in-Some.site (rest_of set c.next.new.self) (sym (c.loop-j.invariant.rest s told keeps holds) ∙ next)).below);
-  page = λ s told keeps holds table tells all.
+  page = λ s told keeps holds symbols table tells all.
       let set = set_in s c.args.set.now in
       let j : ℕ = c.loop-j.j in
       let f : Site → Fixup = fixup_with (address_in table) set in
@@ -94,9 +96,9 @@ loop-j-preserved g c = record {
       let e : drop j r0 ≡ c.in-Some.site ∷ rest_of set c.next.new.self = sym (c.loop-j.invariant.rest s told keeps holds) ∙ next in
       let m = next_of (map f r0) j (f c.in-Some.site) (map f (rest_of set c.next.new.self)) (drop-map f j r0 ∙ ap (map f) e) in
       let plan : IsPlan (rooms_of set) c.args.plan.now = subst (λ (r : List Room). IsPlan r c.args.plan.now) (sym (rooms_are s c.args.set.now c.requires.set c.rooms.ensures holds)) c.requires.plan.plan in
-      let x_is : c.in-Ok-fixup_of.x ≡ f c.in-Some.site = c.in-Ok-fixup_of.ensures.fixup s (c.next.ensures.reads.state ∙ now) set table plan tells in
+      let x_is : c.in-Ok-fixup_of.x ≡ f c.in-Some.site = c.in-Ok-fixup_of.ensures.fixup s (c.next.ensures.reads.state ∙ now) (c.loop-j.invariant.symbols s told symbols) set table plan tells in
       let entry : IsEntry c.in-Ok-fixup_of.x = subst IsEntry (sym x_is) (all_at IsEntry (map f r0) j (f c.in-Some.site) all m.here) in
       let long : length (take j (map f r0)) ≡ j = length-take-le j (map f r0) (omega (arith, m.below)) in
-      let put = c.put_record.ensures entry (take j (map f r0)) long (c.loop-j.invariant.page s told keeps holds table tells all) in
+      let put = c.put_record.ensures entry (take j (map f r0)) long (c.loop-j.invariant.page s told keeps holds symbols table tells all) in
       put ∙ ap (λ (l : List Fixup). area_bytes entry_bytes 256 l) (ap (λ (z : Fixup). take j (map f r0) ++ z ∷ []) x_is ∙ sym m.taken);
 }

@@ -8,6 +8,7 @@ use Rattle.component_store.specs.Reader.{Keeps}
 use Rattle.component_store.specs.Sets.{HoldsSet}
 use Rattle.flash_pages.specs.Board.{Told}
 use Rattle.symbol_merge.specs.Stored.{set_in, symbol_area}
+use Rattle.symbol_merge.specs.Lookup.{KeepsSymbols}
 use Rattle.reloc_table.specs.Order.{rest_of, IsWithin}
 use Rattle.reloc_table.proofs.building.list_page.Given as goal
 
@@ -20,7 +21,8 @@ invariant-loop-j g l = record {
   keeps : Told (g.B.Board.view l.initial.board) (λ s. Keeps s l.initial.cursor.table → HoldsSet s l.set → Keeps s l.cursor.table);
   rest : Told (g.B.Board.view l.initial.board) (λ s. Keeps s l.initial.cursor.table → HoldsSet s l.set → rest_of (set_in s l.set) l.cursor ≡ drop l.j (rest_of (set_in s l.set) l.initial.cursor));
   few : Told (g.B.Board.view l.initial.board) (λ s. Keeps s l.initial.cursor.table → HoldsSet s l.set → l.j ≤ length (rest_of (set_in s l.set) l.initial.cursor));
-  page : Told (g.B.Board.view l.initial.board) (λ s. Keeps s l.initial.cursor.table → HoldsSet s l.set → (table : List MergedSymbol) → Tells (symbol_area s) table →
+  symbols : Told (g.B.Board.view l.initial.board) (λ s. KeepsSymbols s l.initial.symbols → KeepsSymbols s l.symbols);
+  page : Told (g.B.Board.view l.initial.board) (λ s. Keeps s l.initial.cursor.table → HoldsSet s l.set → KeepsSymbols s l.initial.symbols → (table : List MergedSymbol) → Tells (symbol_area s) table →
       AllByRecursion IsEntry (map (fixup_with (address_in table) (set_in s l.set)) (rest_of (set_in s l.set) l.initial.cursor)) →
       l.page ≡ area_bytes entry_bytes 256 (take l.j (map (fixup_with (address_in table) (set_in s l.set)) (rest_of (set_in s l.set) l.initial.cursor))));
 }

@@ -19,7 +19,8 @@ loop-index-init g c = record {
   reads = reads_none (g.B.Board.view c.args.board.now);
   fault = refl;
   keeps = λ s told holds. c.new-table.ensures.keeps s;
-  free = λ s told holds table tells comp here. refl;
+  symbols = λ s told symbols. symbols;
+  free = λ s told symbols holds table tells comp here. refl;
 }
 
 pub returns-in_default-clause-reads : goal.returns-in_default-clause-reads
@@ -29,7 +30,7 @@ pub returns-in-Err-clause-reads : goal.returns-in-Err-clause-reads
 returns-in-Err-clause-reads g c = reads_reads _ _ _ (reads_reads _ _ _ c.loop-index.invariant.reads c.read_reloc.ensures.reads) c.check_site.ensures.reads
 
 pub returns-in-Err-clause-answer : goal.returns-in-Err-clause-answer
-returns-in-Err-clause-answer g c = λ fine s told holds table tells comp here.
+returns-in-Err-clause-answer g c = λ fine s told symbols holds table tells comp here.
     let set = set_in s c.args.set.now in
     let k : ℕ = c.args.k in
     let i : ℕ = c.loop-index.index in
@@ -39,8 +40,8 @@ returns-in-Err-clause-answer g c = λ fine s told holds table tells comp here.
     let reloc = c.in-Ok.ensures.answer s now (c.loop-index.invariant.keeps s told holds) holds comp here in
     let split = site_at k comp i c.in-Ok.reloc reloc in
     let x : Site = record { component = k; index = i; reloc = c.in-Ok.reloc } in
-    let said = c.in-Err.ensures.answer fine s (c.read_reloc.ensures.reads.state ∙ now) set table plan tells in
-    let first : first_cause f (sites_in k comp) ≡ first_cause f (x ∷ drop (i + 1) (sites_in k comp)) = c.loop-index.invariant.free s told holds table tells comp here ∙ ap (first_cause f) split in
+    let said = c.in-Err.ensures.answer fine s (c.read_reloc.ensures.reads.state ∙ now) (c.loop-index.invariant.symbols s told symbols) set table plan tells in
+    let first : first_cause f (sites_in k comp) ≡ first_cause f (x ∷ drop (i + 1) (sites_in k comp)) = c.loop-index.invariant.free s told symbols holds table tells comp here ∙ ap (first_cause f) split in
     subst (λ (o : Option Cause). CauseIs {A = Unit {0}} (Err c.in-Err.fault) o) (sym first) (found_first (Unit {0}) c.in-Err.fault (f x) (first_cause f (drop (i + 1) (sites_in k comp))) fine said)
 
 pub loop-index-preserved : goal.loop-index-preserved
@@ -50,7 +51,8 @@ loop-index-preserved g c = record {
   keeps = λ s told holds.
       let comp = component_at s c.args.set.now c.args.k c.requires.set c.rooms.ensures c.requires.component in
       c.in-Ok.ensures.keeps s (c.loop-index.invariant.reads.state ∙ told) (c.loop-index.invariant.keeps s told holds) holds comp.it comp.here;
-  free = λ s told holds table tells comp here.
+  symbols = λ s told symbols. c.in-Ok-check_site.ensures.keeps s (c.read_reloc.ensures.reads.state ∙ (c.loop-index.invariant.reads.state ∙ told)) (c.loop-index.invariant.symbols s told symbols);
+  free = λ s told symbols holds table tells comp here.
       let set = set_in s c.args.set.now in
       let k : ℕ = c.args.k in
       let i : ℕ = c.loop-index.index in
@@ -59,15 +61,15 @@ loop-index-preserved g c = record {
       let plan : IsPlan (rooms_of set) c.args.plan.now = subst (λ (r : List Room). IsPlan r c.args.plan.now) (sym (rooms_are s c.args.set.now c.requires.set c.rooms.ensures holds)) c.requires.plan.plan in
       let reloc = c.in-Ok.ensures.answer s now (c.loop-index.invariant.keeps s told holds) holds comp here in
       let x : Site = record { component = k; index = i; reloc = c.in-Ok.reloc } in
-      let said = c.in-Ok-check_site.ensures.answer refl s (c.read_reloc.ensures.reads.state ∙ now) set table plan tells in
-      c.loop-index.invariant.free s told holds table tells comp here ∙ passes_on f x (drop i (sites_in k comp)) (drop (i + 1) (sites_in k comp)) (site_at k comp i c.in-Ok.reloc reloc) said;
+      let said = c.in-Ok-check_site.ensures.answer refl s (c.read_reloc.ensures.reads.state ∙ now) (c.loop-index.invariant.symbols s told symbols) set table plan tells in
+      c.loop-index.invariant.free s told symbols holds table tells comp here ∙ passes_on f x (drop i (sites_in k comp)) (drop (i + 1) (sites_in k comp)) (site_at k comp i c.in-Ok.reloc reloc) said;
 }
 
 pub returns-clause-answer : goal.returns-clause-answer
-returns-clause-answer g c = λ fine s told holds table tells comp here.
+returns-clause-answer g c = λ fine s told symbols holds table tells comp here.
     let set = set_in s c.args.set.now in
     let k : ℕ = c.args.k in
     let f : Site → Option Cause = cause_with (address_in table) set in
     let h = has_header s c.args.set.now k comp c.requires.set c.rooms.ensures c.requires.component holds here in
     let none : drop c.loop-index.index (sites_in k comp) ≡ [] = drop_all c.loop-index.index (sites_in k comp) (omega (arith, length-sites k comp, h.relocs, c.loop-index-test.false)) in
-    c.loop-index.invariant.free s told holds table tells comp here ∙ ap (first_cause f) none
+    c.loop-index.invariant.free s told symbols holds table tells comp here ∙ ap (first_cause f) none

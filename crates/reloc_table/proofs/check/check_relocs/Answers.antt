@@ -16,6 +16,7 @@ pub loop-k-init : goal.loop-k-init
 loop-k-init g c = record {
   reads = reads_none (g.B.Board.view c.args.board.now);
   fault = refl;
+  symbols = λ s told. c.new-symbols.ensures s;
   free = λ s told holds table tells. refl;
 }
 
@@ -28,7 +29,7 @@ returns-in-Err-clause-answer g c = λ fine s told holds table tells.
     let k : ℕ = c.loop-k.k in
     let f : Site → Option Cause = cause_with (address_in table) set in
     let comp = component_at s c.args.set.now k c.requires.set c.rooms.ensures c.loop-k-test.true in
-    let said = c.in-Err.ensures.answer fine s (c.loop-k.invariant.reads.state ∙ told) holds table tells comp.it comp.here in
+    let said = c.in-Err.ensures.answer fine s (c.loop-k.invariant.reads.state ∙ told) (c.loop-k.invariant.symbols s told) holds table tells comp.it comp.here in
     subst (λ (o : Option Cause). CauseIs {A = Unit {0}} (Err c.in-Err.fault) o) (sym (c.loop-k.invariant.free s told holds table tells ∙ component_found f set k comp.it comp.here))
     (found_first (Unit {0}) c.in-Err.fault (first_cause f (sites_in k comp.it)) (first_cause f (sites_after set (suc k) 0)) fine said)
 
@@ -40,12 +41,13 @@ pub loop-k-preserved : goal.loop-k-preserved
 loop-k-preserved g c = record {
   reads = reads_reads _ _ _ c.loop-k.invariant.reads c.check_component.ensures.reads;
   fault = c.in-Ok.ensures.faults ∙ c.loop-k.invariant.fault;
+  symbols = λ s told. c.in-Ok.ensures.keeps s (c.loop-k.invariant.reads.state ∙ told) (c.loop-k.invariant.symbols s told);
   free = λ s told holds table tells.
       let set = set_in s c.args.set.now in
       let k : ℕ = c.loop-k.k in
       let f : Site → Option Cause = cause_with (address_in table) set in
       let comp = component_at s c.args.set.now k c.requires.set c.rooms.ensures c.loop-k-test.true in
-      let said = c.in-Ok.ensures.answer refl s (c.loop-k.invariant.reads.state ∙ told) holds table tells comp.it comp.here in
+      let said = c.in-Ok.ensures.answer refl s (c.loop-k.invariant.reads.state ∙ told) (c.loop-k.invariant.symbols s told) holds table tells comp.it comp.here in
       c.loop-k.invariant.free s told holds table tells ∙ component_free f set k comp.it comp.here said;
 }
 
