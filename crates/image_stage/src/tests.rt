@@ -1,4 +1,4 @@
-//! Worked sets over boards in memory, with areas of their own and with others.
+//! Worked sets over boards in memory, with areas of their own and with others; stops and failing calls.
 
 ghost use Rattle.std.specs.Prelude.{IfSome};
 ghost use Rattle.component_package.specs.packages.Manifest.{IsSlotManifest};
@@ -63,14 +63,24 @@ fn package(alloc: Global, number: u16, part: &Part<'_>) -> Result<Vec<u8>, Alloc
     Ok(bytes)
 }
 
-// What goes wrong on a board: a program that stops it and leaves this byte all over its page, or nothing where that is program 0.
-fn faults(alloc: Global, stop_at: u32, spoil: u8) -> BoardPlan {
-    BoardPlan {
-        fail: Vec::new(alloc),
-        stop_at,
-        spoil: [spoil; 256],
-        chunk: 1,
+// What goes wrong on a board: a call that fails, or a program that stops it and leaves this all over its page. None has the number 0.
+fn faults(alloc: Global, fail: u32, stop_at: u32, spoil: [u8; 256]) -> Result<BoardPlan, Fail> {
+    let mut calls = Vec::new(alloc);
+    if 0 < fail {
+        calls.push(fail)?;
     }
+    Ok(BoardPlan {
+        fail: calls,
+        stop_at,
+        spoil,
+        chunk: 1,
+    })
+}
+
+fn restarted(alloc: Global, board: MemoryBoard, fail: u32) -> Result<MemoryBoard, Fail> {
+    let plan = faults(alloc, fail, 0, [0; 256])?;
+    let board = board.restart(alloc, &[], plan)?;
+    Ok(board)
 }
 
 // Puts the package of a component into slot `k`, and its entry behind a manifest's bytes.
@@ -102,7 +112,8 @@ fn store<B: Board>(
 
 // A board whose first slots hold these components, and its manifest in bytes.
 fn stored(alloc: Global, parts: &[Part<'_>]) -> Result<(MemoryBoard, Vec<u8>), Fail> {
-    let mut board = MemoryBoard::new(alloc, &[], faults(alloc, 0, 0), 2000, 0)?;
+    let plan = faults(alloc, 0, 0, [0; 256])?;
+    let mut board = MemoryBoard::new(alloc, &[], plan, 2000, 0)?;
     let mut bytes = vec![in alloc; 1, 0, 0, 0, (parts.len() % 256) as u8]?;
     let mut k = 0u8;
     for part in parts {
@@ -205,6 +216,19 @@ fn made_page<B: Board>(board: &mut B, set: &StoredSet, page: u16) -> [u8; 256]
     into
 }
 
+// Whether a page could be made.
+fn is_made<B: Board>(board: &mut B, set: &StoredSet, page: u16) -> bool
+    requires { IsSet set.now }
+{
+    if 480 <= page {
+        return false;
+    }
+    match planned(set) {
+        Some(plan) => page_of(board, set, &plan, page, &mut [0; 256]).is_ok(),
+        None => false,
+    }
+}
+
 // Programs the first page of an area with these bytes and 0xFF, and its other pages with 0xFF.
 fn put_area<B: Board>(board: &mut B, first: u16, count: u16, bytes: &[u8]) {
     for i in 0..count {
@@ -219,6 +243,13 @@ fn put_area<B: Board>(board: &mut B, first: u16, count: u16, bytes: &[u8]) {
         if first < 1024 && i < 1024 {
             let _programmed = board.ext_program(first + i, &page);
         }
+    }
+}
+
+// Programs zeros all over the staged pages, none of which an image of few bytes leaves so.
+fn put_zeros<B: Board>(board: &mut B) {
+    for page in 0..480u16 {
+        let _programmed = board.ext_program(306 + page, &[0; 256]);
     }
 }
 
@@ -315,6 +346,39 @@ fn eight(board: &MemoryBoard, place: u16) -> [u8; 8] {
     bytes
 }
 
+// What the page holds in whose program power was cut: all the same byte, or falling bytes.
+fn fill(number: u8) -> [u8; 256] {
+    let mut bytes = [0xA5; 256];
+    if number != 0 {
+        for i in 0..256u16 {
+            bytes[i as usize] = if number == 1 { 0 } else { (255 - i) as u8 };
+        }
+    }
+    bytes
+}
+
+// Whether staging ends where power is cut in this program, and whether it then succeeds, and once more with no program.
+fn stopped(
+    alloc: Global,
+    board: MemoryBoard,
+    set: &StoredSet,
+    stop_at: u32,
+    spoil: [u8; 256],
+) -> Result<(MemoryBoard, bool, bool), Fail>
+    requires { IsSet set.now }
+{
+    let mut board = restarted(alloc, board, 0)?;
+    put_zeros(&mut board);
+    let plan = faults(alloc, 0, stop_at, spoil)?;
+    let mut board = board.restart(alloc, &[], plan)?;
+    let stops = !is_staged(&mut board, set);
+    let mut board = restarted(alloc, board, 0)?;
+    let works = is_staged(&mut board, set);
+    let written = board.program_count();
+    let again = is_staged(&mut board, set) && board.program_count() == written;
+    Ok((board, stops, works && again))
+}
+
 #[test]
 fn fields_over_the_end_of_a_page(rt: HostRuntime) -> Result<(), Fail> {
     let (mut board, bytes) = stored(rt.alloc(), &[CALLER, EDGES, CALLEE])?;
@@ -326,15 +390,13 @@ fn fields_over_the_end_of_a_page(rt: HostRuntime) -> Result<(), Fail> {
     assert_eq!(rt; checked(&mut board, &set), Some(Ok(())));
     assert!(rt; is_built(&mut board, &set));
     // Stopped at some programs with three fills, and staged again from what each left.
-    for (stop_at, spoil) in [(1, 0xFF), (2, 0), (480, 0xA5)] {
-        put_area(&mut board, 306, 480, &[1]);
-        board = board.restart(rt.alloc(), &[], faults(rt.alloc(), stop_at, spoil))?;
-        assert!(rt; is_staged(&mut board, &set) == (stop_at == 480));
-        board = board.restart(rt.alloc(), &[], faults(rt.alloc(), 0, 0))?;
-        assert!(rt; is_staged(&mut board, &set));
-        let written = board.program_count();
-        assert!(rt; is_staged(&mut board, &set));
-        assert_eq!(rt; board.program_count(), written);
+    for number in 0..3u8 {
+        for stop_at in [1, 2, 5, 240, 480] {
+            let (next, stops, works) = stopped(rt.alloc(), board, &set, stop_at, fill(number))?;
+            board = next;
+            assert!(rt; stops, "{stop_at}");
+            assert!(rt; works, "{stop_at}");
+        }
     }
     let zeros = [0; 8];
     let rows: [(u16, [u8; 8], [u8; 8]); 5] = [
@@ -355,6 +417,167 @@ fn fields_over_the_end_of_a_page(rt: HostRuntime) -> Result<(), Fail> {
     for page in 0..480u16 {
         let made = made_page(&mut board, &set, page);
         assert!(rt; begins(&made, board.ext_page(306 + page)));
+    }
+    Ok(())
+}
+
+// Code that is all 0xFF, over two pages' ends.
+const BLANK: Part<'static> = Part {
+    code: &[0xFF; 520],
+    zeros: 0,
+    init: &[],
+    exports: &[],
+    relocs: &[],
+};
+
+// What page `page` of such code holds with a call of 0x1234 at this place.
+fn page_with_call(place: u16, page: u16) -> [u8; 256] {
+    let mut bytes = [0xFF; 256];
+    for i in 0..4u16 {
+        let at = place.wrapping_add(i);
+        if at / 256 == page {
+            bytes[(at % 256) as usize] = match i {
+                0 => 0x0E,
+                1 => 0xFE,
+                2 => 0x1A,
+                _ => 0x09,
+            };
+        }
+    }
+    bytes
+}
+
+// A call by a list that isn't the set's, at each place where a page's end splits it, and on both sides. Both pages have their part, whether
+// one is made alone or all are staged.
+#[test]
+fn a_call_over_the_end_of_a_page(rt: HostRuntime) -> Result<(), Fail> {
+    let (mut board, bytes) = stored(rt.alloc(), &[BLANK])?;
+    let Some(set) = opened(&mut board, bytes.as_slice()) else {
+        assert!(rt; false, "no set");
+        return Ok(());
+    };
+    for place in [252, 253, 254, 255, 256u16] {
+        let [low, high] = place.to_le_bytes();
+        put_area(&mut board, 50, 256, &[low, high, 0, 18, 0x34, 0x12, 0, 0]);
+        board = restarted(rt.alloc(), board, 0)?;
+        assert!(rt; is_staged(&mut board, &set), "{place}");
+        for page in 0..3u16 {
+            let want = page_with_call(place, page);
+            assert!(rt; made_page(&mut board, &set, page) == want, "{place} {page}");
+            assert!(rt; *board.ext_page(306 + page) == want, "{place} {page}");
+        }
+    }
+    Ok(())
+}
+
+// A relocation whose field is byte i of code: 7, or a byte of the stack's address.
+fn byte_reloc(i: u16) -> [u8; 8] {
+    let [low, high] = i.to_le_bytes();
+    let kind = 26 + (i % 4) as u8;
+    if kind == 26 {
+        [low, high, 0, kind, 10, 0, 7, 0]
+    } else {
+        [low, high, 0, kind, 9, 0, 0, 0]
+    }
+}
+
+// A page of such fields.
+fn page_of_bytes() -> [u8; 256] {
+    let mut bytes = [0; 256];
+    for i in 0..256u16 {
+        bytes[i as usize] = match i % 4 {
+            0 => 7,
+            1 => 0xFF,
+            2 => 0x10,
+            _ => 0x80,
+        };
+    }
+    bytes
+}
+
+// Eight components of 1,024 such relocations.
+fn most(alloc: Global) -> Result<(MemoryBoard, Vec<u8>), Fail> {
+    let mut relocs = Vec::new(alloc);
+    for i in 0..1024u16 {
+        relocs.push(byte_reloc(i))?;
+    }
+    let part = Part {
+        code: &[],
+        zeros: 1024,
+        init: &[],
+        exports: &[],
+        relocs: relocs.as_slice(),
+    };
+    let mut parts = Vec::new(alloc);
+    for _ in 0..8u8 {
+        parts.push(part)?;
+    }
+    stored(alloc, parts.as_slice())
+}
+
+#[test]
+fn the_most_relocations(rt: HostRuntime) -> Result<(), Fail> {
+    let (mut board, bytes) = most(rt.alloc())?;
+    let Some(set) = opened(&mut board, bytes.as_slice()) else {
+        assert!(rt; false, "no set");
+        return Ok(());
+    };
+    assert!(rt; is_merged(&mut board, &set));
+    assert!(rt; is_built(&mut board, &set));
+    assert!(rt; is_staged(&mut board, &set));
+    let full = page_of_bytes();
+    for page in 0..480u16 {
+        let want = if page < 32 { full } else { [0xFF; 256] };
+        assert!(rt; *board.ext_page(306 + page) == want, "{page}");
+    }
+    assert!(rt; made_page(&mut board, &set, 31) == full);
+    Ok(())
+}
+
+// Whether staging fails where this call of the board does, and whether it then succeeds.
+fn failing(
+    alloc: Global,
+    board: MemoryBoard,
+    set: &StoredSet,
+    fail: u32,
+) -> Result<(MemoryBoard, bool, bool), Fail>
+    requires { IsSet set.now }
+{
+    let mut board = restarted(alloc, board, 0)?;
+    put_zeros(&mut board);
+    let mut board = restarted(alloc, board, fail)?;
+    let fails = !is_staged(&mut board, set);
+    let works = is_staged(&mut board, set);
+    Ok((board, fails, works))
+}
+
+// Each kind of call of the board fails once, and what was asked answers so.
+#[test]
+fn failing_calls(rt: HostRuntime) -> Result<(), Fail> {
+    let (mut board, bytes) = stored(rt.alloc(), &[CALLER, CALLEE])?;
+    let Some(set) = opened(&mut board, bytes.as_slice()) else {
+        assert!(rt; false, "no set");
+        return Ok(());
+    };
+    assert!(rt; is_merged(&mut board, &set));
+    assert!(rt; is_built(&mut board, &set));
+    // For the first page two packages and a page of the list are read; then it and each other page are read and programmed. There are 963
+    // calls.
+    for fail in [1, 2, 3, 4, 5, 6, 7, 500, 962, 963, 2000] {
+        let (next, fails, works) = failing(rt.alloc(), board, &set, fail)?;
+        board = next;
+        assert_eq!(rt; fails, fail <= 963, "{fail}");
+        assert!(rt; works, "{fail}");
+    }
+    // For a page alone, the first entry is found in nine pages of the list.
+    for fail in [1, 9, 10, 11, 12, 100] {
+        board = restarted(rt.alloc(), board, fail)?;
+        assert_eq!(rt; is_made(&mut board, &set, 0), 12 < fail, "{fail}");
+        let page = made_page(&mut board, &set, 0);
+        assert!(rt;
+            begins(&page, &[0x0E, 0x94, 3, 0, 0xFF, 0xCF, 0x08, 0x95]),
+            "{fail}"
+        );
     }
     Ok(())
 }
