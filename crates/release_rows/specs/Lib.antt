@@ -1,0 +1,4 @@
+pub mod Tables
+pub mod Change
+pub mod Kept
+pub mod View
