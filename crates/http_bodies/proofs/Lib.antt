@@ -1,0 +1,5 @@
+pub mod Reading
+pub mod Members
+pub mod Pairs
+pub mod Allowed
+pub mod Floats

@@ -1,0 +1,4 @@
+pub mod Once
+pub mod Long
+pub mod Pieces
+pub mod Values
