@@ -1,0 +1,4 @@
+pub mod Added
+pub mod Seeks
+pub mod Texts
+pub mod Asks

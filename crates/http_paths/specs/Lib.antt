@@ -1,2 +1,4 @@
 pub mod Targets
 pub mod Queries
+pub mod Routes
+pub mod Paths

@@ -35,7 +35,7 @@ pub fn query_of<'a>(target: &'a [u8]) -> Option<&'a [u8]>
 }
 
 // The number that a text writes as `0` or as digits without a leading zero.
-fn number(text: &[u8]) -> Option<u32>
+pub(crate) fn number(text: &[u8]) -> Option<u32>
     ensures { result ≡ number_in text.now }
 {
     match read_number(u32::MAX, text) {
