@@ -1,0 +1,13 @@
+pub mod Types
+pub mod Lists
+pub mod Defined
+pub mod Targets
+pub mod Packed
+pub mod Told
+pub mod Bytes
+pub mod Agree
+pub mod Fields
+pub mod Put
+pub mod Counts
+pub mod Law
+pub mod Asked

@@ -1,0 +1,2 @@
+pub mod NameImage
+pub mod Laws
