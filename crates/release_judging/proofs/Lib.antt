@@ -1,0 +1,4 @@
+pub mod Chain
+pub mod Gathered
+pub mod Distinct
+pub mod Linkable
