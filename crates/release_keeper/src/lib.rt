@@ -15,6 +15,3 @@ mod versions;
 
 pub use keeper::Keeper;
 pub use memory::MemoryKeeper;
-
-#[cfg(test)]
-mod tests;
