@@ -1,6 +1,6 @@
 //! The words that the program takes.
 
-use clap::{Arg, Command};
+use clap::{Arg, Command, value_parser};
 use std::alloc::{AllocError, Global};
 
 const PATCH: &str = "Shows what relocations make of fields, a line for each on standard input.
@@ -18,6 +18,16 @@ const PACKAGE: &str = "Prints the parts, exports and relocations of a package.
 Relocations are named as objdump -r names them. A package names symbols by number: symbol_16 is
 the first that may be exported.";
 
+const PACK: &str = "Writes the package of an AVR object file to standard output.
+
+The file of names gives each symbol name its number: it has one name a line, the first has number 16,
+the next 17, and so on. Names of the object that are not there are added at the end, and where there
+is no such file it is made. Packages fit each other where they were packed with the same file of
+names: keep it, and never take out or move a line.
+
+Where the object has a fault, or can't be packed, standard error has the fault's number and words, the
+status is 1, and the file of names stays as it was. docs/PACKING.md says what can be packed.";
+
 const LINK: &str = "Links packages, in the order given, and writes the image to standard output.
 
 All code stands first and then all data. Where the set has no image, standard error has the first
@@ -25,6 +35,34 @@ cause, and the status is 1.";
 
 fn file<'a>(alloc: Global, help: &'a str) -> Arg<'a> {
     Arg::new(alloc, "FILE").help(help)
+}
+
+// A number of a component or a version.
+fn number<'a>(alloc: Global, name: &'a str, help: &'a str) -> Arg<'a> {
+    Arg::new(alloc, name)
+        .help(help)
+        .required(true)
+        .value_parser(value_parser!(u16))
+}
+
+fn pack<'a>(alloc: Global) -> Result<Command<'a>, AllocError> {
+    Command::new(alloc, "pack")
+        .about("Writes the package of an object")
+        .long_about(PACK)
+        .arg(
+            Arg::new(alloc, "names")
+                .long("names")
+                .value_name("FILE")
+                .help("The file of names; where there is none it is made")
+                .required(true),
+        )?
+        .arg(number(alloc, "COMPONENT", "The component's number, 0 to 65535"))?
+        .arg(number(alloc, "VERSION", "The component's version, 0 to 65535"))?
+        .arg(
+            Arg::new(alloc, "OBJECT")
+                .help("The object, for avr5 or avr51")
+                .required(true),
+        )
 }
 
 /// The program's command line.
@@ -49,10 +87,11 @@ pub(crate) fn command<'a>(alloc: Global) -> Result<Command<'a>, AllocError> {
                 .num_args(1..),
         )?;
     Command::new(alloc, "flexcup_tool")
-        .about("Looks at objects and packages, and links packages")
+        .about("Looks at objects and packages, packs objects and links packages")
         .subcommand_required(true)
         .subcommand(patch)?
         .subcommand(object)?
         .subcommand(package)?
+        .subcommand(pack(alloc)?)?
         .subcommand(link)
 }

@@ -12,7 +12,7 @@ use std::io;
 use std::process::ExitCode;
 
 /// A name, with each byte that isn't a visible ASCII character as two hexadecimal digits.
-fn text(alloc: Global, name: &[u8]) -> Result<String, AllocError> {
+pub(crate) fn text(alloc: Global, name: &[u8]) -> Result<String, AllocError> {
     let mut out = String::new(alloc);
     for b in name {
         if b.is_ascii_graphic() && *b != b'"' && *b != b'\\' {
