@@ -1,13 +1,7 @@
 -- The numbers that refusals carry.
 use Rattle.std.specs.Prelude.{ℕ, ℤ, pos, List, [], ◌∷◌}
-use Rattle.avr_reloc.specs.declared.patch.RangeFault.{RangeFault}
-use Rattle.avr_reloc.specs.declared.patch.RangeFault.TheVariants.{Odd, TooFar}
 use Rattle.component_package.specs.link.Link.{Cause, FlashFull, RamFull, Symbols, Relocations, Duplicate, Undefined, Range}
-
--- why a field can't hold a value: 1 it is odd, 2 it is too far
-abbrev pub range_value : RangeFault → ℕ
-range_value Odd = 1
-range_value (TooFar z) = 2
+use Rattle.component_package.specs.mote.Machine.{range_number}
 
 -- each cause that a set has no image has its number
 abbrev pub number_of_cause : Cause → ℕ
@@ -27,4 +21,4 @@ cause_values (Symbols n) = pos n ∷ []
 cause_values (Relocations n) = pos n ∷ []
 cause_values (Duplicate s i j) = pos s ∷ pos i ∷ pos j ∷ []
 cause_values (Undefined k r s) = pos k ∷ pos r ∷ pos s ∷ []
-cause_values (Range k r c) = pos k ∷ pos r ∷ pos (range_value c) ∷ []
+cause_values (Range k r c) = pos k ∷ pos r ∷ pos (range_number c) ∷ []

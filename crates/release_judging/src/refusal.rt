@@ -2,11 +2,11 @@
 
 ghost use Rattle.std.specs.Prelude.{◌≡◌, List, ℕ, pos, Option, IfOk};
 ghost use Rattle.component_package.specs.link.Link.{Cause};
+ghost use Rattle.component_package.specs.mote.Machine.{range_number};
 ghost use Rattle.full_linker.specs.Faults.{Says as SaysLinking};
 ghost use Rattle.release_rows.specs.declared.part.Numbered.{Numbered};
 ghost use Rattle.release_rows.specs.Tables.{Tables};
 ghost use Rattle.release_judging.specs.declared.judged.Judged.{Judged};
-ghost use Rattle.release_judging.specs.Faults.{range_value};
 ghost use Rattle.release_judging.specs.Judging.{judged_set, IsSoundly};
 
 use crate::judged::Judged;
@@ -33,7 +33,7 @@ pub fn refused(alloc: Global, number: u16, numbers: &[i64]) -> Result<Judged, Al
 }
 
 fn value_of_range(fault: RangeFault) -> i64
-    ensures { result ≡ pos (range_value fault) }
+    ensures { result ≡ pos (range_number fault) }
 {
     match fault {
         RangeFault::Odd => 1,
