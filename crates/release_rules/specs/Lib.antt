@@ -1,0 +1,3 @@
+pub mod Deciding
+pub mod Motes
+pub mod Machine

@@ -1,0 +1,8 @@
+//! What a release server decides: a command under its key is accepted, answered again, or refused by the rules; and what a mote has.
+//!
+//! Rows are only read here. The definitions in `specs/` are the release machine: what it answers to a question over tables, and the tables afterwards.
+#![tactic(auto)]
+
+mod decision;
+
+pub use decision::Decision;
