@@ -16,4 +16,4 @@ pub use image::{ImageAnswer, release_image};
 pub use judged::Judged;
 pub use refusal::refused;
 pub use release::{judge_release, read_packages};
-pub use text::text_of;
+pub use text::{bytes_of, text_of};

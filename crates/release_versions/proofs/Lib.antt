@@ -1,0 +1,5 @@
+pub mod Named
+pub mod Different
+pub mod Judged
+pub mod KeptNumbers
+pub mod Wanting
