@@ -70,7 +70,7 @@ good_entry d is = record {
 }
 
 -- and so are those of all
-good_entries : (ds : List Delivered) → AllByRecursion IsDelivered ds → AllByRecursion IsManifestEntry (map entry_of ds)
+pub good_entries : (ds : List Delivered) → AllByRecursion IsDelivered ds → AllByRecursion IsManifestEntry (map entry_of ds)
 good_entries [] all = tt
 good_entries (d ∷ ds) all = (good_entry d all.0, good_entries ds all.1)
 
