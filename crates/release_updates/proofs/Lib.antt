@@ -1,0 +1,6 @@
+mod Sent
+mod Packages
+mod Cases
+mod Kept
+mod Laws
+mod Examples
