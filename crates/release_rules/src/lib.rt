@@ -3,6 +3,12 @@
 //! Rows are only read here. The definitions in `specs/` are the release machine: what it answers to a question over tables, and the tables afterwards.
 #![tactic(auto)]
 
+mod body;
 mod decision;
+mod mote;
+mod rules;
+mod settle;
 
 pub use decision::Decision;
+pub use mote::mote_body;
+pub use rules::decide;
