@@ -1,6 +1,6 @@
 mod Sent
 mod Packages
 mod Cases
-mod Kept
+pub mod Kept
 mod Laws
 mod Examples
