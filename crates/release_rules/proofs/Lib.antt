@@ -1,1 +1,2 @@
 pub mod Motes
+pub mod Once

@@ -1,3 +1,4 @@
 pub mod Deciding
 pub mod Motes
 pub mod Machine
+pub mod Laws

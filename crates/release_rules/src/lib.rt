@@ -5,10 +5,12 @@
 
 mod body;
 mod decision;
+mod law;
 mod mote;
 mod rules;
 mod settle;
 
 pub use decision::Decision;
+pub use law::{answers_are_one, only_commands_change};
 pub use mote::mote_body;
 pub use rules::decide;
