@@ -1,0 +1,6 @@
+pub mod Parts
+pub mod Pieces
+pub mod Requests
+pub mod Taken
+pub mod Questions
+pub mod Laws
