@@ -1,7 +1,7 @@
 -- What holds of the kinds of inputs.
 use Rattle.std.specs.Prelude.{◌≡◌, ℕ, List}
 use Rattle.httparse.specs.Grammar.{EndsInTarget}
-use Rattle.http_requests.specs.Requests.{Kind, no_head, bad_head, too_large, cut, request, IsOfKind}
+use Rattle.http_requests.specs.Requests.{Kind, no_head, cut, IsOfKind}
 
 -- two kinds of one input are one; an input that ends inside its target may be refused and cut
 abbrev pub Agree : List ℕ → Kind → Kind → Type 0

@@ -1,5 +1,5 @@
 -- What a request asks. The tests come in the order in which they stand here.
-use Rattle.std.specs.Prelude.{ℕ, List, ◌∷◌, ◌++◌, codes, Bool, bytes_eq, Option, Some, None, is_some, option_map, option_and_then, if◌then◌else◌}
+use Rattle.std.specs.Prelude.{ℕ, List, ◌∷◌, ◌++◌, codes, Bool, bytes_eq, Option, Some, None, is_some, option_and_then, if◌then◌else◌}
 use Rattle.sha2.specs.Sha256.{sha256}
 use Rattle.http_paths.specs.Targets.{path_of, query_of}
 use Rattle.http_paths.specs.Queries.{have_in}

@@ -1,6 +1,6 @@
 -- What an input is: a request, a refused one, or one that its source cut.
 use Rattle.std.specs.Prelude.{◌≡◌, ◌<◌, ◌≤◌, ℕ, List, ◌++◌, length, map, Option}
-use Rattle.httparse.specs.Grammar.{RequestHead, print_request, ReadsRequest, EndsInTarget}
+use Rattle.httparse.specs.Grammar.{RequestHead, print_request, ReadsRequest}
 use Rattle.httparse.specs.Spans.{name_and_value}
 use Rattle.http_heads.specs.Heads.{HasNoHead, IsCutHead}
 use Rattle.http_heads.specs.Fields.{key_of}

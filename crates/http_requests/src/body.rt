@@ -1,8 +1,8 @@
 //! A body, read in the pieces in which it comes.
-ghost use Rattle.std.specs.Prelude.{◌≡◌, ℕ, List, length, Some, IfOk};
+ghost use Rattle.std.specs.Prelude.{◌≡◌, ◌≤◌, ℕ, List, length, Some, IfOk};
 ghost use Rattle.http_edges.specs.Edge.{Counts, in_front};
 ghost use Rattle.http_requests.specs.Pieces.{Filled};
-ghost use Rattle.http_requests.specs.Taken.{TellsBody};
+ghost use Rattle.http_requests.specs.Taken.{TellsBody, HasSize};
 
 use http_edges::{Failed, Source};
 use std::alloc::Global;
@@ -20,13 +20,15 @@ pub(crate) enum BodyRead {
     NoRoom,
 }
 
-// Fills a buffer from a source, and says whether there was enough to fill it.
-fn fill<S: Source>(source: &mut S, into: &mut [u8]) -> Result<bool, Failed>
-    ensures filled { IfOk result (Filled into.new (S.view source.old) (S.view source.new)) }
+// Fills a buffer with these bytes and then from a source, and says whether there was enough to fill it.
+fn fill<S: Source>(source: &mut S, start: &[u8], into: &mut [u8]) -> Result<bool, Failed>
+    requires fits { length start.now ≤ length into.old }
+    ensures filled { IfOk result (Filled start.now into.new (S.view source.old) (S.view source.new)) }
     ensures size { length into.new ≡ length into.old }
     ensures counts { Counts (S.view source.old).faults (S.view source.new).faults result }
 {
-    let mut at = 0;
+    into[..start.len()].copy_from_slice(start);
+    let mut at = start.len();
     while at < into.len() {
         let Ok(count) = source.read(&mut into[at..]) else {
             return Err(Failed);
@@ -46,6 +48,7 @@ pub(crate) fn read_body<S: Source>(
     start: &[u8],
     count: usize,
 ) -> Result<BodyRead, Failed>
+    ensures size { IfOk result (HasSize count) }
     ensures tells { IfOk result (λ read. (rest : List ℕ) → in_front start.now (S.view source.old).left ≡ Some rest → TellsBody count rest read) }
     ensures counts { Counts (S.view source.old).faults (S.view source.new).faults result }
 {
@@ -58,8 +61,7 @@ pub(crate) fn read_body<S: Source>(
     let Ok(mut body) = vec![in alloc; 0; count] else {
         return Ok(BodyRead::NoRoom);
     };
-    body[..start.len()].copy_from_slice(start);
-    let Ok(full) = fill(source, &mut body[start.len()..]) else {
+    let Ok(full) = fill(source, start, &mut body) else {
         return Err(Failed);
     };
     if !full {

@@ -2,7 +2,7 @@
 ghost use Rattle.std.specs.Prelude.{◌≡◌, ◌≤◌, ℕ, List, length, take, Some, IfOk};
 ghost use Rattle.http_edges.specs.Edge.{Counts, in_front};
 ghost use Rattle.http_heads.specs.Read.{IsWholeHead};
-ghost use Rattle.http_requests.specs.Taken.{IsTakenWithin, TellsKind};
+ghost use Rattle.http_requests.specs.Taken.{IsTakenWithin, TellsKind, ReadsNoBody, ReadsNoMore};
 
 use crate::body::{BodyRead, read_body};
 use http_edges::{Failed, Source};
@@ -57,6 +57,7 @@ fn take_rest<S: Source>(
     requires room { length buffer.now ≡ 8192 }
     requires head { IsWholeHead (take count buffer.now) buffer.now headers.now count spans }
     ensures counts { Counts (S.view source.old).faults (S.view source.new).faults result }
+    ensures unread { IfOk result (ReadsNoMore (S.view source.old) (S.view source.new)) }
     ensures within { IfOk result (IsTakenWithin buffer.now headers.now) }
     ensures kind { IfOk result (λ taken. (input : List ℕ) → in_front (take count buffer.now) (S.view source.old).left ≡ Some input
         → TellsKind input buffer.now headers.now taken) }
@@ -87,6 +88,7 @@ pub fn take_request<S: Source>(
     requires room { length buffer.old ≡ 8192 }
     requires headers { length headers.old ≡ 2800 }
     ensures counts { Counts (S.view source.old).faults (S.view source.new).faults result }
+    ensures unread { IfOk result (ReadsNoBody (S.view source.old) (S.view source.new)) }
     ensures within { IfOk result (IsTakenWithin buffer.new headers.new) }
     ensures kind { IfOk result (λ taken. (input : List ℕ) → (S.view source.old).left ≡ Some input → TellsKind input buffer.new headers.new taken) }
 {
