@@ -14,6 +14,6 @@ mod text;
 pub use acknowledge::judge_ack;
 pub use image::{ImageAnswer, release_image};
 pub use judged::Judged;
-pub use refusal::refused;
+pub use refusal::{link_refusal, refused};
 pub use release::{judge_release, read_packages};
 pub use text::{bytes_of, text_of};
