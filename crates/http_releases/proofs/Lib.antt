@@ -1,0 +1,4 @@
+mod Shown
+mod Founds
+mod Chains
+mod Dues

@@ -1,0 +1,5 @@
+pub mod Responses
+pub mod Due
+pub mod Outcomes
+pub mod Replies
+pub mod Laws
