@@ -1,0 +1,10 @@
+pub mod Lists
+pub mod Kept
+pub mod Acks
+pub mod Releases
+pub mod Bytes
+pub mod Named
+pub mod Packages
+pub mod Taken
+pub mod Versions
+pub mod Answers

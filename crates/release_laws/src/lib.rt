@@ -1,0 +1,28 @@
+//! Laws over the definitions of a release server: its tables stay in order, a key acts once, and the image of a release is the image by names
+//! of the objects that were given for it.
+//!
+//! The laws speak of the definitions alone. Each function does nothing, and its contract is the law.
+#![tactic(auto)]
+
+ghost use Rattle.release_laws.specs.Steps.{AcksKeepTables, ReleasesKeepTables, VersionsKeepTables};
+ghost use Rattle.release_laws.specs.Posted.{AnswersKeepTables};
+
+/// An acknowledgement that the rules take keeps the tables in order.
+pub fn acks_keep_tables()
+    ensures { AcksKeepTables }
+{}
+
+/// A release that the rules take keeps the tables in order.
+pub fn releases_keep_tables()
+    ensures { ReleasesKeepTables }
+{}
+
+/// A version that the rules take keeps the tables in order.
+pub fn versions_keep_tables()
+    ensures { VersionsKeepTables }
+{}
+
+/// Behind the answer to any command that may come, the tables are in order where they were before.
+pub fn answers_keep_tables()
+    ensures { AnswersKeepTables }
+{}
