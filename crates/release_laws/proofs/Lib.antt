@@ -8,3 +8,4 @@ pub mod Packages
 pub mod Taken
 pub mod Versions
 pub mod Answers
+pub mod Keys

@@ -6,6 +6,7 @@
 
 ghost use Rattle.release_laws.specs.Steps.{AcksKeepTables, ReleasesKeepTables, VersionsKeepTables};
 ghost use Rattle.release_laws.specs.Posted.{AnswersKeepTables};
+ghost use Rattle.release_laws.specs.Keys.{KeysActOnce};
 
 /// An acknowledgement that the rules take keeps the tables in order.
 pub fn acks_keep_tables()
@@ -25,4 +26,10 @@ pub fn versions_keep_tables()
 /// Behind the answer to any command that may come, the tables are in order where they were before.
 pub fn answers_keep_tables()
     ensures { AnswersKeepTables }
+{}
+
+/// A key acts once: whatever comes afterwards, no command under the key of an accepted one changes a row, and one with the same digest is
+/// answered with the first answer's body.
+pub fn keys_act_once()
+    ensures { KeysActOnce }
 {}
