@@ -9,3 +9,4 @@ pub mod Taken
 pub mod Versions
 pub mod Answers
 pub mod Keys
+pub mod Histories

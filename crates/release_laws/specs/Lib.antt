@@ -1,3 +1,4 @@
 pub mod Steps
 pub mod Posted
 pub mod Keys
+pub mod History

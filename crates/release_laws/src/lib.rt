@@ -7,6 +7,7 @@
 ghost use Rattle.release_laws.specs.Steps.{AcksKeepTables, ReleasesKeepTables, VersionsKeepTables};
 ghost use Rattle.release_laws.specs.Posted.{AnswersKeepTables};
 ghost use Rattle.release_laws.specs.Keys.{KeysActOnce};
+ghost use Rattle.release_laws.specs.History.{HistoriesAreKept};
 
 /// An acknowledgement that the rules take keeps the tables in order.
 pub fn acks_keep_tables()
@@ -32,4 +33,10 @@ pub fn answers_keep_tables()
 /// answered with the first answer's body.
 pub fn keys_act_once()
     ensures { KeysActOnce }
+{}
+
+/// After any commands from nothing the tables are in order, and each version's package is that of the object file that was given for it,
+/// with the numbers that its names have in the tables.
+pub fn histories_are_kept()
+    ensures { HistoriesAreKept }
 {}
