@@ -10,3 +10,4 @@ pub mod Versions
 pub mod Answers
 pub mod Keys
 pub mod Histories
+pub mod Served

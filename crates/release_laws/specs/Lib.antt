@@ -2,3 +2,4 @@ pub mod Steps
 pub mod Posted
 pub mod Keys
 pub mod History
+pub mod Served

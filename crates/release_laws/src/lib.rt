@@ -8,6 +8,7 @@ ghost use Rattle.release_laws.specs.Steps.{AcksKeepTables, ReleasesKeepTables, V
 ghost use Rattle.release_laws.specs.Posted.{AnswersKeepTables};
 ghost use Rattle.release_laws.specs.Keys.{KeysActOnce};
 ghost use Rattle.release_laws.specs.History.{HistoriesAreKept};
+ghost use Rattle.release_laws.specs.Served.{ServedImagesAreNameImages};
 
 /// An acknowledgement that the rules take keeps the tables in order.
 pub fn acks_keep_tables()
@@ -39,4 +40,10 @@ pub fn keys_act_once()
 /// with the numbers that its names have in the tables.
 pub fn histories_are_kept()
     ensures { HistoriesAreKept }
+{}
+
+/// After any commands from nothing, the image of a mote's release is the image by names of the objects that were given for its parts, in
+/// their order.
+pub fn served_images_are_name_images()
+    ensures { ServedImagesAreNameImages }
 {}
