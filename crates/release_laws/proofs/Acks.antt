@@ -1,8 +1,8 @@
 -- Acknowledgements keep the tables in order.
-use Rattle.std.proofs.Common.{◌≡◌, ℕ, Bool, true, false, cond, Option, Some, None, List, [], ◌∷◌, map, refl, sym, ap, subst, ◌∙◌, bytes_eq, is_some, ltb, pos}
+use Rattle.std.proofs.Common.{◌≡◌, ℕ, ◌≤◌, Bool, true, false, cond, Option, Some, None, List, [], ◌∷◌, map, refl, sym, ap, subst, ◌∙◌, bytes_eq, is_some, ltb, pos}
 use Rattle.std.specs.Prelude.{is_none}
 use Rattle.std.specs.List.{list_any, AllByRecursion}
-use Rattle.std.proofs.lemmas.Bool.{or_parts, or_from}
+use Rattle.std.proofs.lemmas.Bool.{or_parts, or_from, ltb-false}
 use Rattle.std.proofs.lemmas.List.Elements.{All-from_recursion, recursion_from_All}
 use Rattle.release_rows.specs.declared.part.Numbered.{Numbered}
 use Rattle.release_rows.specs.declared.row.AckRow.{AckRow}
@@ -80,16 +80,16 @@ module _ (t : Tables) (k : AreKept t) (mote : List ℕ) (n : ℕ) (key : KeyRow)
   }
 
 -- what holds of the word of a mote that has the release holds of one that the rules take
-pub ack_does : (t : Tables) (mote : List ℕ) (n : ℕ) (P : Effect → Type 0) → (is_some (stored_release t mote n) ≡ true → P (effects.Ack mote n)) → (e : Effect) → judged_ack t mote n ≡ judgements.Does e → P e
-ack_does t mote n P then e is = from (stored_release t mote n) refl (ltb n (acknowledged t mote)) is
+pub ack_does : (t : Tables) (mote : List ℕ) (n : ℕ) (P : Effect → Type 0) → (is_some (stored_release t mote n) ≡ true → acknowledged t mote ≤ n → P (effects.Ack mote n)) → (e : Effect) → judged_ack t mote n ≡ judgements.Does e → P e
+ack_does t mote n P then e is = from (stored_release t mote n) refl (ltb n (acknowledged t mote)) refl is
   where
-    from : (o : Option (List Numbered)) → stored_release t mote n ≡ o → (b : Bool)
+    from : (o : Option (List Numbered)) → stored_release t mote n ≡ o → (b : Bool) → ltb n (acknowledged t mote) ≡ b
         → cond (is_none o) judgements.NoRow (cond b (judgements.Refused 55 (pos (acknowledged t mote) ∷ [])) (judgements.Does (effects.Ack mote n))) ≡ judgements.Does e → P e
-    from None there b is = absurd cc
-    from (Some parts) there true is = absurd cc
-    from (Some parts) there false is =
+    from None there b low is = absurd cc
+    from (Some parts) there true low is = absurd cc
+    from (Some parts) there false low is =
         let same : effects.Ack mote n ≡ e = cc in
-        subst P same (then (ap (λ (o : Option (List Numbered)). is_some o) there))
+        subst P same (then (ap (λ (o : Option (List Numbered)). is_some o) there) (ltb-false n (acknowledged t mote) low))
 
 pub acks_keep_tables : AcksKeepTables
-acks_keep_tables t k mote n e key is new = ack_does t mote n (λ (x : Effect). AreKept (changed t (record { effect = x; key = key }))) (ack_kept t k mote n key new) e is
+acks_keep_tables t k mote n e key is new = ack_does t mote n (λ (x : Effect). AreKept (changed t (record { effect = x; key = key }))) (λ there low. ack_kept t k mote n key new there) e is

@@ -147,9 +147,10 @@ module _ (t : Tables) (k : AreKept t) (fs : List (List ℕ)) (all : AllZip (IsFi
       subst (λ (x : Effect). AllZip (IsFileOf (changed t (record { effect = x; key = key_of x }))) (fs ++ file ∷ []) (changed t (record { effect = x; key = key_of x })).versions) it.effect
       (version_files t k (key_of e_is) new name file bytes e it fs all)
   does_files new (AddRelease mote parts) allowed bytes e is =
-      release_does t mote HasSame (λ ps kept room. same_files (changed t (record { effect = effects.Release mote (release_count t mote + 1) ps; key = key_of (effects.Release mote (release_count t mote + 1) ps) })) (λ n j there. there)) e parts allowed.0 allowed.1 is
+      release_does t mote parts HasSame
+      (λ ps it. same_files (changed t (record { effect = effects.Release mote (release_count t mote + 1) ps; key = key_of (effects.Release mote (release_count t mote + 1) ps) })) (λ n j there. there)) e is
   does_files new (Acknowledge mote release) allowed bytes e is =
-      ack_does t mote release HasSame (λ there. same_files (changed t (record { effect = effects.Ack mote release; key = key_of (effects.Ack mote release) })) (λ n j there. there)) e is
+      ack_does t mote release HasSame (λ there low. same_files (changed t (record { effect = effects.Ack mote release; key = key_of (effects.Ack mote release) })) (λ n j there. there)) e is
 
   settled_files : key_row t key ≡ None → (c : Command) → IsAllowed c → HasBytes c → (j : Judged) → judged t c ≡ j → HasFiles (settled key digest j) c
   settled_files new c allowed bytes (judgements.Does e) is = does_files new c allowed bytes e is

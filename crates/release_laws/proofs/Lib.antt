@@ -9,5 +9,6 @@ pub mod Taken
 pub mod Versions
 pub mod Answers
 pub mod Keys
+pub mod Stays
 pub mod Histories
 pub mod Served

@@ -12,7 +12,7 @@ use Rattle.release_rows.specs.declared.row.KeyRow.{KeyRow}
 use Rattle.release_rows.specs.declared.change.Effect.{Effect}
 use Rattle.release_rows.specs.declared.change.Effect.TheVariants as effects
 use Rattle.release_rows.specs.Tables.{Tables, key_row, release_count, is_release}
-use Rattle.release_rows.specs.Change.{IsPartList, changed}
+use Rattle.release_rows.specs.Change.{changed}
 use Rattle.release_rows.specs.Kept.{packages_of, IsKeptRelease, AreKept}
 use Rattle.release_judging.specs.declared.judged.Judged.{Judged}
 use Rattle.release_judging.specs.declared.judged.Judged.TheVariants as judgements
@@ -66,54 +66,70 @@ module _ (t : Tables) (k : AreKept t) (mote : List ℕ) (key : KeyRow) (new : ke
       keys = keys_more t k key new;
     }
 
--- what holds of every release that can be kept holds of one that the rules take
-module _ (t : Tables) (mote : List ℕ) (P : Effect → Type 0)
-    (then : (ps : List Numbered) → IsKeptRelease t ps → release_count t mote < 4294967295 → P (effects.Release mote (release_count t mote + 1) ps)) where
-  module _ (e : Effect) where
-    abbrev set_with : Bool → List Numbered → Option Cause → Judged
-    set_with b ps (Some c) = judgements.Refused (300 + number_of_cause c) (cause_values c)
-    set_with b ps None = cond b (judgements.Refused 54 []) (judgements.Does (effects.Release mote (release_count t mote + 1) ps))
+-- ---- a release that the rules take
 
-    from_set : (ps : List Numbered) (set : List (List ℕ)) → IsPartList ps → packages_of t ps ≡ Some set → judged_set t mote ps (link_cause (map component_of set)) ≡ judgements.Does e → P e
-    from_set ps set list there is = from (link_cause (map component_of set)) refl (leb 4294967295 (release_count t mote)) refl (split (link_cause (map component_of set)) ∙ is)
+-- the numbered parts are there, no component twice, nothing refuses their set, and there is room for a release
+pub record IsTakenRelease (t : Tables) (mote : List ℕ) (parts : List Part) (ps : List Numbered) : Type 0 where
+  pub are : numbered_parts t parts ≡ Some ps
+  pub apart : are_distinct (map (λ p. p.component) ps) ≡ true
+  pub set : List (List ℕ)
+  pub there : packages_of t ps ≡ Some set
+  pub linked : link_cause (map component_of set) ≡ None
+  pub room : release_count t mote < 4294967295
+
+kept_release : (t : Tables) (mote : List ℕ) (parts : List Part) (ps : List Numbered) → 1 ≤ length parts → length parts ≤ 16 → IsTakenRelease t mote parts ps → IsKeptRelease t ps
+kept_release t mote parts ps some few is =
+    let long = all_length (numbered_part t) parts ps is.are in
+    record {
+      parts_are = record { some = omega (arith, long, some); few = omega (arith, long, few); distinct = distinct_means (map (λ (p : Numbered). p.component) ps) is.apart };
+      set = is.set;
+      there = is.there;
+      linked = is.linked;
+    }
+
+-- what holds of every release that can be taken holds of one that the rules take
+module _ (t : Tables) (mote : List ℕ) (parts : List Part) (P : Effect → Type 0) (then : (ps : List Numbered) → IsTakenRelease t mote parts ps → P (effects.Release mote (release_count t mote + 1) ps)) (e : Effect) where
+  abbrev set_with : Bool → List Numbered → Option Cause → Judged
+  set_with b ps (Some c) = judgements.Refused (300 + number_of_cause c) (cause_values c)
+  set_with b ps None = cond b (judgements.Refused 54 []) (judgements.Does (effects.Release mote (release_count t mote + 1) ps))
+
+  module _ (ps : List Numbered) (are : numbered_parts t parts ≡ Some ps) where
+    from_set : (set : List (List ℕ)) → are_distinct (map (λ p. p.component) ps) ≡ true → packages_of t ps ≡ Some set → judged_set t mote ps (link_cause (map component_of set)) ≡ judgements.Does e → P e
+    from_set set apart there is = from (link_cause (map component_of set)) refl (leb 4294967295 (release_count t mote)) refl (split (link_cause (map component_of set)) ∙ is)
       where
         split : (o : Option Cause) → set_with (leb 4294967295 (release_count t mote)) ps o ≡ judged_set t mote ps o
         split None = refl
         split (Some c) = refl
 
-        from : (o : Option Cause) → link_cause (map component_of set) ≡ o → (b : Bool) → leb 4294967295 (release_count t mote) ≡ b
-            → set_with b ps o ≡ judgements.Does e
-            → P e
+        from : (o : Option Cause) → link_cause (map component_of set) ≡ o → (b : Bool) → leb 4294967295 (release_count t mote) ≡ b → set_with b ps o ≡ judgements.Does e → P e
         from (Some c) linked b room is = absurd cc
         from None linked true room is = absurd cc
         from None linked false room is =
             let same : effects.Release mote (release_count t mote + 1) ps ≡ e = cc in
-            subst P same
-            (then ps (record { parts_are = list; set = set; there = there; linked = linked }) (leb-false 4294967295 (release_count t mote) room))
+            subst P same (then ps (record { are = are; apart = apart; set = set; there = there; linked = linked; room = leb-false 4294967295 (release_count t mote) room }))
 
-    from_packages : (ps : List Numbered) → IsPartList ps → judged_packages t mote ps (packages_of t ps) ≡ judgements.Does e → P e
-    from_packages ps list is = from (packages_of t ps) refl is
+    from_packages : are_distinct (map (λ p. p.component) ps) ≡ true → judged_packages t mote ps (packages_of t ps) ≡ judgements.Does e → P e
+    from_packages apart is = from (packages_of t ps) refl is
       where
         from : (o : Option (List (List ℕ))) → packages_of t ps ≡ o → judged_packages t mote ps o ≡ judgements.Does e → P e
         from None there is = absurd cc
-        from (Some set) there is = from_set ps set list there is
+        from (Some set) there is = from_set set apart there is
 
-    from_parts : (ps : List Numbered) → 1 ≤ length ps → length ps ≤ 16 → judged_parts t mote (Some ps) ≡ judgements.Does e → P e
-    from_parts ps some few is = from (are_distinct (map (λ (p : Numbered). p.component) ps)) refl is
+    from_parts : judged_parts t mote (Some ps) ≡ judgements.Does e → P e
+    from_parts is = from (are_distinct (map (λ (p : Numbered). p.component) ps)) refl is
       where
         from : (b : Bool) → are_distinct (map (λ (p : Numbered). p.component) ps) ≡ b → cond b (judged_packages t mote ps (packages_of t ps)) judgements.NoRow ≡ judgements.Does e → P e
         from false apart is = absurd cc
-        from true apart is = from_packages ps (record { some = some; few = few; distinct = distinct_means (map (λ (p : Numbered). p.component) ps) apart }) is
+        from true apart is = from_packages apart is
 
-    pub release_does : (parts : List Part) → 1 ≤ length parts → length parts ≤ 16 → judged_release t mote parts ≡ judgements.Does e → P e
-    release_does parts some few is = from (numbered_parts t parts) refl is
-      where
-        from : (o : Option (List Numbered)) → numbered_parts t parts ≡ o → judged_parts t mote o ≡ judgements.Does e → P e
-        from None are is = absurd cc
-        from (Some ps) are is =
-            let long = all_length (numbered_part t) parts ps are in
-            from_parts ps (omega (arith, long, some)) (omega (arith, long, few)) is
+  pub release_does : judged_release t mote parts ≡ judgements.Does e → P e
+  release_does is = from (numbered_parts t parts) refl is
+    where
+      from : (o : Option (List Numbered)) → numbered_parts t parts ≡ o → judged_parts t mote o ≡ judgements.Does e → P e
+      from None are is = absurd cc
+      from (Some ps) are is = from_parts ps are is
 
 pub releases_keep_tables : ReleasesKeepTables
 releases_keep_tables t k mote parts some few e key is new =
-    release_does t mote (λ (x : Effect). AreKept (changed t (record { effect = x; key = key }))) (release_kept t k mote key new) e parts some few is
+    release_does t mote parts (λ (x : Effect). AreKept (changed t (record { effect = x; key = key })))
+    (λ ps it. release_kept t k mote key new ps (kept_release t mote parts ps some few it) it.room) e is

@@ -11,7 +11,7 @@ use Rattle.avr_elf.proofs.ObjectLemmas.{is_object}
 use Rattle.avr_elf.proofs.WellFormedLemmas.{means_well_formed}
 use Rattle.component_package.specs.packages.Component.{Component}
 use Rattle.component_package.specs.packages.Reading.{component_of}
-use Rattle.component_package.specs.link.Link.{IsImage}
+use Rattle.component_package.specs.link.Link.{Cause, IsImage}
 use Rattle.component_package.proofs.Laws.{faultless_bytes_spell}
 use Rattle.object_packer.specs.Names.{names}
 use Rattle.object_packer.specs.Packed.{packed}
@@ -24,6 +24,8 @@ use Rattle.release_rows.specs.declared.row.VersionRow.{VersionRow}
 use Rattle.release_rows.specs.declared.row.ReleaseRow.{ReleaseRow}
 use Rattle.release_rows.specs.Tables.{Tables, symbol_number, is_version, is_release, stored_package, stored_release}
 use Rattle.release_rows.specs.Kept.{packages_of, IsKeptRelease}
+use Rattle.http_replies.specs.declared.status.Status.TheVariants.{Success}
+use Rattle.release_rules.specs.Machine.{Answer, IsImageOf, IsReleaseImage}
 use Rattle.release_laws.specs.History.{History, empty_history, after, number_for, IsFileOf, IsHistory}
 use Rattle.release_laws.specs.Served.{stored_file, files_of, ServesNameImages, ServedImagesAreNameImages}
 use Rattle.release_laws.proofs.Lists.{bytes_are, found_passes, found_all, row_of, beside, numbers_from, same_row, any_all}
@@ -143,6 +145,20 @@ module _ (h : History) (is : IsHistory h) where
       subst (IsKeptRelease t) r.2
       (found_all (λ (r : ReleaseRow). IsKeptRelease t r.parts) (is_release m n) t.releases r.0 (recursion_from_All (λ (r : ReleaseRow). IsKeptRelease t r.parts) t.releases is.kept.sets) r.1)
 
+  -- an answer to a question for the image of a release
+  answer_is : (ps : List Numbered) (kept : IsKeptRelease t ps) (fs : List (List ℕ)) (a : Answer) → files_of h ps ≡ Some fs → IsReleaseImage (packages_of t ps) t a
+      → (a.status ≡ Success) × IsNameImage (map object_of fs) a.body
+  answer_is ps kept fs a f answer =
+      let set = kept.set in
+      let x = all_files ps set kept.there in
+      let same : x.0 ≡ fs = same_Some x.0 fs (sym x.1 ∙ f) in
+      let linked : IsImageOf None (map component_of set) t a =
+      subst (λ (o : Option Cause). IsImageOf o (map component_of set) t a) kept.linked (subst (λ (o : Option (List (List ℕ))). IsReleaseImage o t a) kept.there answer) in (
+        ap (λ (b : Answer). b.status) linked.2,
+        subst (λ (b : Answer). IsNameImage (map object_of fs) b.body) (sym linked.2)
+            ((image_is fs set (subst (λ (gs : List (List ℕ)). AllZip (IsServed t) gs set) same x.2) linked.0).0 linked.1),
+      )
+
   pub serves : (m : List ℕ) (n : ℕ) → ServesNameImages h m n
   serves m n = from (stored_release t m n) refl
     where
@@ -157,6 +173,7 @@ module _ (h : History) (is : IsHistory h) where
         packages_there = ap (λ o. is_some (packages_at o)) there ∙ sym (ap (λ (o : Option (List Numbered)). is_some o) there);
         files_there = ap (λ o. is_some (files_at o)) there ∙ sym (ap (λ (o : Option (List Numbered)). is_some o) there);
         images = λ bs fs e f b. let no : None ≡ Some bs = sym (ap packages_at there) ∙ e in absurd cc;
+        answers = λ fs a f answer. let no : None ≡ Some fs = sym (ap files_at there) ∙ f in absurd cc;
       }
       from (Some ps) there =
           let kept = whole m n ps there in
@@ -168,6 +185,7 @@ module _ (h : History) (is : IsHistory h) where
                 let y = all_files ps bs (sym (ap packages_at there) ∙ e) in
                 let same : y.0 ≡ fs = same_Some y.0 fs (sym y.1 ∙ sym (ap files_at there) ∙ f) in
                 image_is fs bs (subst (λ (gs : List (List ℕ)). AllZip (IsServed t) gs bs) same y.2) b;
+            answers = λ fs a f answer. answer_is ps kept fs a (sym (ap files_at there) ∙ f) (subst (λ o. IsReleaseImage (packages_at o) t a) there answer);
           }
 
 pub served_images_are_name_images : ServedImagesAreNameImages

@@ -1,5 +1,6 @@
 pub mod Steps
 pub mod Posted
 pub mod Keys
+pub mod Stays
 pub mod History
 pub mod Served

@@ -1,4 +1,4 @@
-//! Laws over the definitions of a release server: its tables stay in order, a key acts once, and the image of a release is the image by names
+//! Laws over the definitions of a release server: its tables stay in order and keep their rows, a key acts once, and the image of a release is the image by names
 //! of the objects that were given for it.
 //!
 //! The laws speak of the definitions alone. Each function does nothing, and its contract is the law.
@@ -7,6 +7,7 @@
 ghost use Rattle.release_laws.specs.Steps.{AcksKeepTables, ReleasesKeepTables, VersionsKeepTables};
 ghost use Rattle.release_laws.specs.Posted.{AnswersKeepTables};
 ghost use Rattle.release_laws.specs.Keys.{KeysActOnce};
+ghost use Rattle.release_laws.specs.Stays.{RowsStay};
 ghost use Rattle.release_laws.specs.History.{HistoriesAreKept};
 ghost use Rattle.release_laws.specs.Served.{ServedImagesAreNameImages};
 
@@ -34,6 +35,11 @@ pub fn answers_keep_tables()
 /// answered with the first answer's body.
 pub fn keys_act_once()
     ensures { KeysActOnce }
+{}
+
+/// What is stored stays, whatever comes afterwards: each number, name, package, release and key, and no mote's word goes back.
+pub fn rows_stay()
+    ensures { RowsStay }
 {}
 
 /// After any commands from nothing the tables are in order, and each version's package is that of the object file that was given for it,
