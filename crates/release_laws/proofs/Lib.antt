@@ -12,3 +12,4 @@ pub mod Keys
 pub mod Stays
 pub mod Histories
 pub mod Served
+mod Worked

@@ -4,3 +4,4 @@ pub mod Keys
 pub mod Stays
 pub mod History
 pub mod Served
+pub mod Worked

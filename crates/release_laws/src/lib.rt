@@ -10,6 +10,7 @@ ghost use Rattle.release_laws.specs.Keys.{KeysActOnce};
 ghost use Rattle.release_laws.specs.Stays.{RowsStay};
 ghost use Rattle.release_laws.specs.History.{HistoriesAreKept};
 ghost use Rattle.release_laws.specs.Served.{ServedImagesAreNameImages};
+ghost use Rattle.release_laws.specs.Worked.{WorkedHistory};
 
 /// An acknowledgement that the rules take keeps the tables in order.
 pub fn acks_keep_tables()
@@ -52,4 +53,9 @@ pub fn histories_are_kept()
 /// their order.
 pub fn served_images_are_name_images()
     ensures { ServedImagesAreNameImages }
+{}
+
+/// A worked history: an object of 251 bytes is kept, a release of it is made, and a key that comes again makes no other release.
+pub fn worked_history()
+    ensures { WorkedHistory }
 {}
