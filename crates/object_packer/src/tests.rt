@@ -1,11 +1,17 @@
 //! An object written out by hand, packed, and what is refused of its neighbours.
 
+mod faults;
+mod rows;
+
 use super::*;
 use avr_elf::read_object;
 use avr_reloc::RelocType;
-use component_package::{Export, Place, Reloc};
+use component_package::{Export, Package, Place, Reloc};
 use std::alloc::{AllocError, Global};
 use std::test::Fail;
+
+/// Bytes that are written over a file's own, each with its place.
+type Edits = &'static [(usize, &'static [u8])];
 
 /// The file header, but for the sixteen bytes of the identification: relocatable, AVR, version 1, no
 /// entry, no program headers, section headers at 442, avr5, sizes, thirteen sections, names in the last.
@@ -107,7 +113,7 @@ fn sender(alloc: Global) -> Result<Vec<u8>, AllocError> {
 }
 
 /// The file with bytes written over some of its own.
-fn edited(alloc: Global, file: &[u8], edits: &[(usize, &[u8])]) -> Result<Vec<u8>, AllocError> {
+fn edited(alloc: Global, file: &[u8], edits: Edits) -> Result<Vec<u8>, AllocError> {
     let mut out = file.to_vec(alloc)?;
     for (at, bytes) in edits {
         if *at <= out.len() {
@@ -118,17 +124,6 @@ fn edited(alloc: Global, file: &[u8], edits: &[(usize, &[u8])]) -> Result<Vec<u8
         }
     }
     Ok(out)
-}
-
-// The first fault of an object that is read; none where it is not.
-fn fault_of(alloc: Global, file: &[u8]) -> Option<PackFault> {
-    if file.len() > 1_048_576 {
-        return None;
-    }
-    let Ok(o) = read_object(file) else {
-        return None;
-    };
-    names_of(alloc, &o).err()
 }
 
 /// Bytes 32 and on of the package, but for exports and relocations.
@@ -188,82 +183,6 @@ fn packs_an_object(rt: HostRuntime) -> Result<(), Fail> {
         reloc(8, RelocType::Rel13, 0, 0),
     ];
     assert_eq!(rt; p.relocs.as_slice(), relocs.as_slice());
-    Ok(())
-}
-
-/// Section headers begin at 442 and have 40 bytes: section 4 at 602, 5 at 642, 8 at 762. Symbols begin
-/// at 140 and have 16 bytes, relocations of `.text.send` at 67 and have 12.
-#[test]
-fn answers_the_first_fault(rt: HostRuntime) -> Result<(), Fail> {
-    let cases: [(&[(usize, &[u8])], Option<PackFault>); 39] = [
-        // Sections: an alignment, a name, and the first of two.
-        (&[(634, &[2])], None),
-        (&[(634, &[4])], Some(PackFault::Section(4))),
-        (&[(634, &[4]), (514, &[4])], Some(PackFault::Section(1))),
-        (&[(366, b"init.")], Some(PackFault::Section(6))),
-        (&[(339, b"init4")], Some(PackFault::Section(4))),
-        (&[(339, b"fini4")], Some(PackFault::Section(4))),
-        (&[(339, b"ctors")], Some(PackFault::Section(4))),
-        (&[(339, b"dtors")], Some(PackFault::Section(4))),
-        (&[(339, b"fuse.")], Some(PackFault::Section(4))),
-        (&[(339, b"lock.")], Some(PackFault::Section(4))),
-        (&[(339, b"inix4")], None),
-        // Symbols: common before absolute before a name; the first of two.
-        (&[(202, &[0xF2, 0xFF])], Some(PackFault::Common(3))),
-        (&[(266, &[0xF2, 0xFF])], Some(PackFault::Common(7))),
-        (&[(170, &[0xF2, 0xFF])], Some(PackFault::Common(1))),
-        (
-            &[(218, &[0xF1, 0xFF]), (208, &[0, 0, 1])],
-            Some(PackFault::Absolute(4)),
-        ),
-        (&[(218, &[0xF1, 0xFF]), (208, &[0xFF, 0xFF])], None),
-        (&[(204, &[1])], Some(PackFault::NameTwice(4))),
-        (
-            &[(204, &[1]), (216, &[0x21])],
-            Some(PackFault::NameTwice(4)),
-        ),
-        (&[(220, &[1])], None),
-        (&[(269, b"__stack\0")], Some(PackFault::NameTwice(3))),
-        (
-            &[(269, b"__stack\0"), (266, &[0xF2, 0xFF])],
-            Some(PackFault::NameTwice(3)),
-        ),
-        (
-            &[(269, b"__stack\0"), (634, &[4])],
-            Some(PackFault::Section(4)),
-        ),
-        // Relocations: type before field before the symbol's section before the addend.
-        (&[(71, &[33])], Some(PackFault::Kind(4, 0, 33))),
-        (&[(71, &[32])], None),
-        (&[(71, &[0])], None),
-        (&[(107, &[255])], Some(PackFault::Kind(4, 3, 255))),
-        (&[(107, &[33]), (67, &[11])], Some(PackFault::Field(4, 0))),
-        (&[(67, &[11])], Some(PackFault::Field(4, 0))),
-        (&[(67, &[1])], Some(PackFault::Field(4, 0))),
-        (&[(67, &[11]), (71, &[33])], Some(PackFault::Kind(4, 0, 33))),
-        (&[(170, &[8])], Some(PackFault::Section(8))),
-        (
-            &[(170, &[8]), (75, &[0xFF; 4])],
-            Some(PackFault::Section(8)),
-        ),
-        (&[(75, &[0xFB, 0x7F])], None),
-        (&[(75, &[0xFC, 0x7F])], Some(PackFault::Addend(4, 0))),
-        (&[(75, &[0xFC, 0x7F, 0xFF, 0xFF])], None),
-        (
-            &[(75, &[0xFB, 0x7F, 0xFF, 0xFF])],
-            Some(PackFault::Addend(4, 0)),
-        ),
-        // Overlap, of the greater offset, else of the later entry.
-        (&[(79, &[0])], Some(PackFault::Field(4, 1))),
-        (&[(79, &[6])], Some(PackFault::Field(4, 1))),
-        // Size of RAM.
-        (&[(582, &[0xFF, 0xFF])], Some(PackFault::Size(65_536))),
-    ];
-    let file = sender(rt.alloc())?;
-    for (edits, fault) in cases {
-        let bad = edited(rt.alloc(), &file, edits)?;
-        assert_eq!(rt; fault_of(rt.alloc(), &bad), fault, "{edits:?}");
-    }
     Ok(())
 }
 
