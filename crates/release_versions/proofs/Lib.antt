@@ -3,3 +3,4 @@ pub mod Different
 pub mod Judged
 pub mod KeptNumbers
 pub mod Wanting
+pub mod Sizes

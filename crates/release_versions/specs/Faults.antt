@@ -1,5 +1,5 @@
 -- The numbers that go with the refusal of an object: those of its fault, in the order of its fields.
-use Rattle.std.specs.Prelude.{ℤ, pos, List, [], ◌∷◌}
+use Rattle.std.specs.Prelude.{◌≡◌, ℕ, ℤ, pos, ◌<◌, ◌^◌, List, [], ◌∷◌, Option, Some}
 use Rattle.avr_elf.specs.declared.fault.ElfFault.{ElfFault}
 use Rattle.avr_elf.specs.declared.fault.ElfFault.TheVariants as elf
 use Rattle.object_packer.specs.declared.fault.PackFault.{PackFault}
@@ -29,3 +29,7 @@ pack_values (packing.Size total) = pos total ∷ []
 pack_values (packing.Absolute symbol) = pos symbol ∷ []
 pack_values (packing.NameTwice symbol) = pos symbol ∷ []
 pack_values packing.Memory = []
+
+-- the bytes that a fault of size counts are as few as a refusal can say
+abbrev pub IsFewBytes : Option PackFault → Type 0
+IsFewBytes f = (n : ℕ) → f ≡ Some (packing.Size n) → n < 2 ^ 63

@@ -1,13 +1,12 @@
 //! Refusals of objects.
 
-ghost use Rattle.std.specs.Prelude.{◌≡◌, ◌+◌, pos, [], ◌∷◌, IfOk};
+ghost use Rattle.std.specs.Prelude.{◌≡◌, ◌<◌, ◌+◌, ◌^◌, pos, [], ◌∷◌, Some, IfOk};
 ghost use Rattle.avr_elf.specs.FaultNumber as elf;
 ghost use Rattle.object_packer.specs.Faults as packing;
 ghost use Rattle.release_judging.specs.declared.judged.Judged.{Judged};
-ghost use Rattle.release_versions.specs.Faults.{elf_values, pack_values};
+ghost use Rattle.release_versions.specs.Faults.{elf_values, pack_values, IsFewBytes};
 
 use avr_elf::ElfFault;
-use component_package::NoMemory;
 use object_packer::PackFault;
 use release_judging::{Judged, refused};
 use std::alloc::{AllocError, Global};
@@ -25,7 +24,8 @@ pub(crate) fn elf_refusal(alloc: Global, fault: ElfFault) -> Result<Judged, Allo
 }
 
 /// The refusal of an object that can't be packed.
-pub(crate) fn pack_refusal(alloc: Global, fault: PackFault) -> Result<Judged, NoMemory>
+pub(crate) fn pack_refusal(alloc: Global, fault: PackFault) -> Result<Judged, AllocError>
+    requires { IsFewBytes (Some fault) }
     ensures { IfOk result (λ j. j ≡ Judged.Refused (200 + packing.number_of fault) (pack_values fault)) }
 {
     let number = 200 + fault.number() as u16;
@@ -49,12 +49,10 @@ pub(crate) fn pack_refusal(alloc: Global, fault: PackFault) -> Result<Judged, No
     Ok(refusal)
 }
 
-// The refusal of so many bytes. A refusal has no room for more than `i64::MAX`, which no object has.
-fn size_refusal(alloc: Global, number: u16, total: u64) -> Result<Judged, NoMemory>
+// The refusal of so many bytes.
+fn size_refusal(alloc: Global, number: u16, total: u64) -> Result<Judged, AllocError>
+    requires { total < 2 ^ 63 }
     ensures { IfOk result (λ j. j ≡ Judged.Refused number (pos total ∷ [])) }
 {
-    match i64::try_from(total) {
-        Ok(total) => Ok(refused(alloc, number, &[total])?),
-        Err(_) => Err(NoMemory),
-    }
+    refused(alloc, number, &[total as i64])
 }

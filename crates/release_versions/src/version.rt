@@ -10,6 +10,7 @@ ghost use Rattle.release_rows.specs.declared.change.Effect.TheVariants as effect
 ghost use Rattle.release_rows.specs.View.{Told, Reads};
 ghost use Rattle.release_judging.specs.declared.judged.Judged.{Judged};
 ghost use Rattle.release_judging.specs.Judging.{IsSoundly};
+ghost use Rattle.release_versions.specs.Faults.{IsFewBytes};
 ghost use Rattle.release_versions.specs.Versions.{are_symbols as symbols_test, judged_names, judged_component, judged_object, judged_version};
 
 use crate::component::{component_for, version_for};
@@ -115,6 +116,7 @@ fn judge_object<'a, R: Rows>(
     name: &str,
     object: &'a ObjectView<'a>,
 ) -> Result<Judged, RowsFault>
+    requires { IsFewBytes (pack_fault object.now) }
     ensures judged { IfOk result (λ j. Told (R.view rows.old) (λ t. j ≡ judged_object t name.now object.now (pack_fault object.now))) }
     ensures sound { IfOk result IsSoundly }
     ensures reads { Reads result (R.view rows.old) (R.view rows.new) }
