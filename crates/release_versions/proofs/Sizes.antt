@@ -1,16 +1,15 @@
 -- The bytes that a packing fault of size counts are fewer than 2 ^ 63.
-use Rattle.std.proofs.Common.{◌≡◌, ℕ, zero, suc, ◌+◌, ◌*◌, ◌<◌, ◌≤◌, Bool, true, false, cond, Option, Some, None, List, [], ◌∷◌, ◌++◌, length, map, refl, sym, ap, subst, ◌∙◌, arith, length-append, unwrap_or, inl, inr}
-use Rattle.std.specs.Prelude.{◌%◌, ◌/◌, not, nat_lt, slice_get}
+use Rattle.std.proofs.Common.{◌≡◌, ℕ, zero, suc, ◌+◌, ◌*◌, ◌<◌, ◌≤◌, Bool, true, false, cond, Option, Some, None, List, [], ◌∷◌, ◌++◌, length, map, sym, ap, subst, arith, length-append}
+use Rattle.std.specs.Prelude.{◌/◌, not, nat_lt}
 use Rattle.std.specs.Option.{option_or, option_to_list}
 use Rattle.std.specs.List.{filter, flat_map, range_with_len}
-use Rattle.std.proofs.lemmas.Bool.{cases_order}
 use Rattle.std.proofs.lemmas.List.FromFn.{length-range_with_len}
 use Rattle.std.proofs.lemmas.List.Sums.{sum_by-cons}
 use Rattle.avr_elf.specs.Number.{u16_at, u32_at}
-use Rattle.avr_elf.specs.First.{first_of, list_of}
+use Rattle.avr_elf.specs.First.{first_of}
 use Rattle.avr_elf.specs.Header.{section_count, header_at, header_of}
 use Rattle.avr_elf.specs.Section.{is_allocated, symtab_of, table_of}
-use Rattle.avr_elf.specs.Object.{SectionParts, Object, AreBytes, relas_at, section_of, symbol_of, symbols_of, relas_in, relas_of, object_of}
+use Rattle.avr_elf.specs.Object.{SectionParts, Object, AreBytes, relas_at, section_of, symbol_of, symbols_of, relas_in, object_of}
 use Rattle.avr_elf.specs.Entry.{rela_entry}
 use Rattle.avr_elf.specs.Faults.{rela_at as rela_place}
 use Rattle.avr_elf.proofs.ObjectLemmas.{relas_at-object_of}
@@ -23,10 +22,10 @@ use Rattle.object_packer.specs.declared.fault.PackFault.{PackFault}
 use Rattle.object_packer.specs.declared.fault.PackFault.TheVariants as faults
 use Rattle.object_packer.specs.Sections.{section_at, symbol_at, rela_at}
 use Rattle.object_packer.specs.Parts.{is_refused, is_in, even_up, room_of, part_length, home_of}
-use Rattle.object_packer.specs.References.{is_local, reference_of}
+use Rattle.object_packer.specs.References.{reference_of}
 use Rattle.object_packer.specs.Relocations.{kept_at, kept_with, kept_in, kept, kept_width, ordered}
 use Rattle.object_packer.specs.Names.{is_exported, exported}
-use Rattle.object_packer.specs.Faults.{section_fault, is_named_twice, value_fault, name_fault, symbol_fault, has_field, is_small, addend_fault, kept_fault, entry_fault, entries_fault, relas_fault, overlap_fault, package_length, size_fault, sections_fault, symbols_fault, relocs_fault, pack_fault, Says}
+use Rattle.object_packer.specs.Faults.{section_fault, is_named_twice, value_fault, name_fault, symbol_fault, has_field, addend_fault, kept_fault, entry_fault, entries_fault, relas_fault, overlap_fault, package_length, size_fault, sections_fault, symbols_fault, relocs_fault, pack_fault, Says}
 use Rattle.name_laws.proofs.Types.{Kept, Home}
 use Rattle.release_versions.specs.Faults.{IsFewBytes}
 

@@ -1,15 +1,13 @@
 //! Numbers of names.
 
-ghost use Rattle.std.specs.Prelude.{◌≡◌, ◌+◌, ◌<◌, ◌≤◌, nat_le, is_none, length, map, IfOk};
-ghost use Rattle.std.specs.List.{All, filter, list_all};
-ghost use Rattle.component_package.specs.packages.Manifest.{AreDistinct};
+ghost use Rattle.std.specs.Prelude.{◌≡◌, ◌+◌, ◌<◌, ◌≤◌, nat_le, length, map, IfOk};
+ghost use Rattle.std.specs.List.{All, list_all};
 ghost use Rattle.release_rows.specs.Tables.{symbol_number};
 ghost use Rattle.release_rows.specs.View.{Told, Reads};
 ghost use Rattle.release_judging.specs.Judging.{are_distinct as distinct_test};
 ghost use Rattle.release_versions.specs.Numbers.{numbers_from, rows_from, new_count};
 ghost use Rattle.release_versions.specs.Versions.{are_symbols as symbols_test};
 
-use component_package::Bytes;
 use object_packer::Names;
 use release_judging::bytes_of;
 use release_rows::{Rows, RowsFault, SymbolRow, SymbolRows};

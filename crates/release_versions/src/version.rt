@@ -1,7 +1,6 @@
 //! The rule of versions.
 
 ghost use Rattle.std.specs.Prelude.{◌≡◌, ◌≤◌, true, None, IfOk, length};
-ghost use Rattle.std.specs.List.{All};
 ghost use Rattle.component_package.specs.packages.Component.{spelling};
 ghost use Rattle.object_packer.specs.Faults.{pack_fault};
 ghost use Rattle.object_packer.specs.Names.{names as names_of, number_in};
@@ -11,7 +10,7 @@ ghost use Rattle.release_rows.specs.View.{Told, Reads};
 ghost use Rattle.release_judging.specs.declared.judged.Judged.{Judged};
 ghost use Rattle.release_judging.specs.Judging.{IsSoundly};
 ghost use Rattle.release_versions.specs.Faults.{IsFewBytes};
-ghost use Rattle.release_versions.specs.Versions.{are_symbols as symbols_test, judged_names, judged_component, judged_object, judged_version};
+ghost use Rattle.release_versions.specs.Versions.{are_symbols as symbols_test, judged_names, judged_object, judged_version};
 
 use crate::component::{component_for, version_for};
 use crate::numbers::{are_symbols, known_numbers, new_count, numbers_from, rows_from};
