@@ -27,7 +27,7 @@ numbers_are t o count known is = named_numbers t (16 + symbol_count t) (names o)
 pub rows_are : (t : Tables) (o : Object) (count : ℕ) (known : List (Option ℕ)) → IsKnown t o count known → new_symbols t o ≡ rows_from (16 + count) (names o) known
 rows_are t o count known is = named_rows t (16 + symbol_count t) (names o) ∙ ap₂ (λ (n : ℕ) (ks : List (Option ℕ)). rows_from (16 + n) (names o) ks) (sym is.count_is) (sym is.known_is)
 
-total_is : (t : Tables) (o : Object) (count : ℕ) (known : List (Option ℕ)) → IsKnown t o count known → symbol_count t + length (new_symbols t o) ≡ count + new_count known
+pub total_is : (t : Tables) (o : Object) (count : ℕ) (known : List (Option ℕ)) → IsKnown t o count known → symbol_count t + length (new_symbols t o) ≡ count + new_count known
 total_is t o count known is =
     ap₂ (λ (a b : ℕ). a + b) (sym is.count_is)
     (ap length (rows_are t o count known is) ∙ count_rows (16 + count) (names o) known (ap length is.known_is ∙ length-map (names o) (symbol_number t)))

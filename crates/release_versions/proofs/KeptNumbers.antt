@@ -1,5 +1,5 @@
 -- Over kept tables the names of an object have different numbers.
-use Rattle.std.proofs.Common.{◌≡◌, ℕ, ◌+◌, ◌<◌, ◌≤◌, Bool, true, false, cond, Option, Some, None, List, [], ◌∷◌, length, map, refl, sym, ap, ap₂, subst, ◌∙◌, arith, eqb}
+use Rattle.std.proofs.Common.{◌≡◌, ℕ, ◌+◌, ◌<◌, ◌≤◌, Bool, true, false, cond, Option, Some, None, List, [], ◌∷◌, length, map, refl, sym, ap, ap₂, subst, ◌∙◌, arith}
 use Rattle.std.specs.Prelude.{◌==◌, ◌&&◌, ◌||◌, not, nat_le, bytes_eq}
 use Rattle.std.specs.List.{find, filter, list_any, list_all, range_with_len, AllByRecursion}
 use Rattle.std.specs.Option.{option_map}
@@ -169,7 +169,7 @@ filter_differ p (n ∷ ns) apart = from (p n) (filter_differ p ns apart.1)
     from true rest = (less p (bytes_eq n) ns apart.0, rest)
     from false rest = rest
 
-turned : (n m : List ℕ) → bytes_eq m n ≡ false → bytes_eq n m ≡ false
+pub turned : (n m : List ℕ) → bytes_eq m n ≡ false → bytes_eq n m ≡ false
 turned n m e = from (bytes_eq n m) refl
   where
     from : (c : Bool) → bytes_eq n m ≡ c → bytes_eq n m ≡ false

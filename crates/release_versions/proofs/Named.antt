@@ -31,10 +31,10 @@ named_rows t free (n ∷ ns) = from (symbol_number t n) (λ next. named_rows t n
     from (Some number) rest = rest free
     from None rest = ap (λ (xs : List SymbolRow). record { number = free; name = n } ∷ xs) (rest (free + 1))
 
-count_known : (number : ℕ) (known : List (Option ℕ)) → new_count (Some number ∷ known) ≡ new_count known
+pub count_known : (number : ℕ) (known : List (Option ℕ)) → new_count (Some number ∷ known) ≡ new_count known
 count_known number known = let step = sum_by-cons (λ k. cond (is_none k) 1 0) (Some number) known in omega (arith, step)
 
-count_new : (known : List (Option ℕ)) → new_count (None ∷ known) ≡ 1 + new_count known
+pub count_new : (known : List (Option ℕ)) → new_count (None ∷ known) ≡ 1 + new_count known
 count_new known = sum_by-cons (λ k. cond (is_none k) 1 0) None known
 
 -- as many rows are new as names are unknown

@@ -1,6 +1,6 @@
 -- What has to hold where an object is refused for want of numbers, and where it is not refused.
-use Rattle.std.proofs.Common.{◌≡◌, ℕ, ◌+◌, ◌<◌, ◌≤◌, Bool, true, false, cond, Option, Some, None, List, [], length, refl, sym, ap, subst, ◌∙◌, arith}
-use Rattle.std.specs.Prelude.{ℤ, nat_lt, nat_le, not}
+use Rattle.std.proofs.Common.{◌≡◌, ℕ, ◌+◌, ◌<◌, Bool, true, false, cond, Option, Some, None, List, [], length, refl, arith}
+use Rattle.std.specs.Prelude.{ℤ, nat_lt, not}
 use Rattle.std.proofs.lemmas.Bool.Decides.{nat_tests}
 use Rattle.avr_elf.specs.declared.fault.ElfFault.{ElfFault}
 use Rattle.avr_elf.specs.FaultNumber as elf
@@ -15,7 +15,6 @@ use Rattle.object_packer.specs.Packed.{packed}
 use Rattle.release_rows.specs.declared.change.Effect.TheVariants as effects
 use Rattle.release_rows.specs.Tables.{Tables, symbol_count}
 use Rattle.release_rows.specs.Kept.{AreKept}
-use Rattle.release_judging.specs.declared.judged.Judged.{Judged}
 use Rattle.release_judging.specs.declared.judged.Judged.TheVariants.{Does, Refused}
 use Rattle.release_versions.specs.Versions.{are_symbols, numbers_of, new_symbols, component_for, version_for, judged_names, judged_next, judged_component, judged_object, judged_file, judged_version}
 use Rattle.release_versions.proofs.KeptNumbers.{kept_numbers_differ}

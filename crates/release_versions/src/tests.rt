@@ -1,5 +1,6 @@
 //! An object written out by hand, judged over tables in memory and over rows that say what a test wants.
 
+ghost use Rattle.std.specs.Prelude.{None};
 ghost use Rattle.release_judging.specs.Judging.{IsSoundly};
 
 use super::judge_version;
@@ -199,6 +200,7 @@ struct Answers {
 }
 
 impl Rows for Answers {
+    ghost use Rattle.std.specs.Prelude.{None};
     ghost use Rattle.release_judging.specs.Judging.{IsSoundly};
 
     ghost view = { λ _. record { tables = None; faults = 0 } };

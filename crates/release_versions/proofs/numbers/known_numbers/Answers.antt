@@ -1,4 +1,4 @@
-use Rattle.std.proofs.Common.{◌≡◌, ℕ, ◌+◌, Option, get_or, sym, ap, ◌∙◌, arith, List, ◌++◌, ◌∷◌, [], map, take, length}
+use Rattle.std.proofs.Common.{◌≡◌, ℕ, Option, get_or, sym, ap, ◌∙◌, arith, List, ◌++◌, ◌∷◌, [], map, take}
 use Rattle.std.proofs.lemmas.List.{map_more}
 use Rattle.release_rows.specs.Tables.{symbol_number}
 use Rattle.release_rows.specs.View.{View}

@@ -1,6 +1,6 @@
-use Rattle.std.proofs.Common.{◌≡◌, ◌≤◌, ℕ, ◌+◌, ◌<◌, ◌++◌, ◌∷◌, None, Some, Vec, Global, List, [], get_or, length, drop, refl, sym, ap, ap₂, ◌∙◌, arith}
+use Rattle.std.proofs.Common.{◌≡◌, ℕ, ◌+◌, ◌<◌, ◌++◌, ◌∷◌, None, Some, Vec, Global, List, [], get_or, length, drop, refl, sym, ap, ap₂, ◌∙◌, arith}
 use Rattle.release_rows.specs.declared.row.SymbolRow.{SymbolRow}
-use Rattle.release_versions.specs.Numbers.{rows_from, new_count}
+use Rattle.release_versions.specs.Numbers.{rows_from}
 use Rattle.release_versions.proofs.Named.{name_is, rows_known, rows_new, left_known, left_new}
 use Rattle.release_versions.proofs.numbers.rows_from.Goals.{in-Some, in-None+in_ok-row_of-in-None+in_ok-push-in-None}
 use Rattle.release_versions.proofs.numbers.rows_from.Goals as goal

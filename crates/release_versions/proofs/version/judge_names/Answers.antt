@@ -1,12 +1,11 @@
-use Rattle.std.proofs.Common.{◌≡◌, ◌≤◌, ℕ, ◌+◌, ◌<◌, true, false, Some, Option, List, length, map, sym, ap, ap₂, ◌∙◌, arith, rules}
-use Rattle.std.specs.Prelude.{not}
+use Rattle.std.proofs.Common.{◌≡◌, ℕ, ◌+◌, true, false, Option, List, length, map, sym, ap, ap₂, ◌∙◌, arith}
 use Rattle.object_packer.specs.Names.{names}
 use Rattle.component_package.specs.packages.Component.{spelling}
 use Rattle.object_packer.specs.Names.{number_in}
 use Rattle.object_packer.specs.Packed.{packed}
 use Rattle.release_rows.specs.declared.row.SymbolRow.{SymbolRow}
 use Rattle.release_rows.specs.declared.change.Effect.TheVariants as effects
-use Rattle.release_rows.specs.Tables.{Tables, symbol_number}
+use Rattle.release_rows.specs.Tables.{symbol_number}
 use Rattle.release_judging.specs.declared.judged.Judged.TheVariants.{Does}
 use Rattle.release_versions.specs.Numbers.{numbers_from, rows_from, new_count}
 use Rattle.release_versions.specs.Versions.{are_symbols}
