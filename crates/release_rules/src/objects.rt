@@ -9,8 +9,6 @@ pub(crate) enum Object {
     Sender,
     /// A component that defines `radio_put`.
     Radio,
-    /// A component without a name.
-    Bare,
     /// The first of them, cut inside its section table.
     Cut,
 }
@@ -91,17 +89,6 @@ const RADIO: File = File {
     ],
 };
 
-const BARE: File = File {
-    start: 71,
-    count: 3,
-    content: &[b"\x08\x95", b"\0.text\0.shstrtab\0"],
-    sections: &[
-        [0, 0, 0, 0, 0, 0, 0, 0, 0, 0],
-        [1, 1, 6, 0, 52, 2, 0, 0, 1, 0],
-        [7, 3, 0, 0, 54, 17, 0, 0, 1, 0],
-    ],
-};
-
 fn push_word(out: &mut Vec<u8>, word: u32) -> Result<(), AllocError> {
     for b in word.to_le_bytes() {
         out.push(b)?;
@@ -142,7 +129,6 @@ pub(crate) fn object_file(alloc: Global, object: Object) -> Result<Bytes, AllocE
     let mut bytes = match object {
         Object::Sender | Object::Cut => written(alloc, &SENDER)?,
         Object::Radio => written(alloc, &RADIO)?,
-        Object::Bare => written(alloc, &BARE)?,
     };
     if matches!(object, Object::Cut) {
         bytes.truncate(500);
