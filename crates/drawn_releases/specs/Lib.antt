@@ -1,0 +1,4 @@
+pub mod Generator
+pub mod Code
+pub mod Between
+pub mod Rows
