@@ -1,0 +1,4 @@
+mod Drawing
+mod Made
+mod Pushed
+mod Examples
