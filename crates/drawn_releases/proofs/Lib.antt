@@ -1,4 +1,5 @@
 mod Drawing
 mod Made
 mod Pushed
+mod Fits
 mod Examples

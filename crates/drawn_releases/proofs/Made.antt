@@ -9,7 +9,7 @@ use Rattle.std.proofs.lemmas.List.{drop_at, take_at}
 use Rattle.avr_reloc.specs.declared.kind.Shape.TheVariants as shapes
 use Rattle.avr_reloc.specs.Field.{HasZeroValue}
 use Rattle.component_package.specs.packages.Numbers.{u16_bytes}
-use Rattle.component_package.specs.packages.Component.{Component}
+use Rattle.component_package.specs.packages.Component.{Component, spelling}
 use Rattle.component_package.specs.packages.Grammar.{IsComponent, IsReloc, RelocsRise}
 use Rattle.component_package.proofs.ReadAgain.{length-spelling}
 use Rattle.update_laws.proofs.SpelledBytes.{Bytes, none, more, two}
@@ -165,15 +165,21 @@ init_long x = data_long (data_size x == 0) (drawn 20 (behind_code x)) (next (beh
 pub code_long : (x : ℕ) → length (flat_map instruction_bytes (drawn_code x)) ≡ 2 * (32 + drawn 600 x)
 code_long x = words_long (32 + drawn 600 x) 0 (next x)
 
+pub made_short : (c v x : ℕ) → length (spelling (made c v x)) ≤ 9984
+made_short c v x =
+    let m = made c v x in
+    let is = drawn_code x in
+    let words : drawn 600 x < 600 = omega arith in
+    let half : drawn 20 (behind_code x) < 20 = omega arith in
+    let relocs : length m.relocs ≡ length (calls_from 0 is) + length (data_relocs (data_size x)) = length-append (calls_from 0 is) (data_relocs (data_size x)) in
+    omega (arith, length-spelling m, relocs, calls_few is 0, pointer_few (data_size x == 0), code_long x, init_long x, words, half)
+
 pub is_component : (c v x : ℕ) → 1 ≤ c → c ≤ 12 → v < 65536 → IsComponent (made c v x)
 is_component c v x some known small =
     let m = made c v x in
     let is = drawn_code x in
     let drawn_all = are_drawn (32 + drawn 600 x) 0 (next x) in
-    let words : drawn 600 x < 600 = omega arith in
-    let half : drawn 20 (behind_code x) < 20 = omega arith in
     let zeroed : drawn 20 (behind_data x) < 20 = omega arith in
-    let relocs : length m.relocs ≡ length (calls_from 0 is) + length (data_relocs (data_size x)) = length-append (calls_from 0 is) (data_relocs (data_size x)) in
     record {
       component = omega (arith, known);
       version = omega (arith, small);
@@ -183,7 +189,7 @@ is_component c v x some known small =
       even_init = omega (arith, init_long x);
       even_bss = omega arith;
       bss = omega (arith, zeroed);
-      short = omega (arith, length-spelling m, relocs, calls_few is 0, pointer_few (data_size x == 0), code_long x, init_long x, words, half);
+      short = made_short c v x;
       exports = (record { symbol = omega (arith, known); value = omega arith }, tt);
       export_order = (omega (arith, some), tt);
       relocs = all_append (IsReloc m) (calls_from 0 is) (data_relocs (data_size x)) (calls_are m is [] refl refl drawn_all) (pointer_is m (data_size x == 0) _ refl);
