@@ -90,7 +90,9 @@ fn main(rt: HostRuntime) -> Result<()> {
         let start = Instant::now(&rt)?;
         let update = updates(rt.alloc(), &mut keeper, size)?;
         let asked = start.elapsed(&rt)?.as_secs_f64();
-        println!(rt; "at {size} releases: a release is answered in {release} bytes, an update in {update}")?;
+        println!(rt;
+            "at {size} releases: a release is answered in {release} bytes, an update in {update}"
+        )?;
         if timed {
             eprintln!(rt;
                 "at {size} releases: {:.0} releases and {:.0} updates a second",
