@@ -57,7 +57,7 @@ more_short (suc n) c d short = more_short n (c + 1) (with_one c d) (All-append I
 
 remade_short : (c : ℕ) (d : Drawn) (at : Option ℕ) → AreShort d.packages → AreShort (remade_at c d at).packages
 remade_short c d None short = short
-remade_short c d (Some i) short = 
+remade_short c d (Some i) short =
     let v = next_version (slice_index_or d.packages i no_package).version in
     All-set IsShort d.packages i (package_of (made c v d.state)) (made_short c v d.state) short
 
