@@ -232,10 +232,6 @@ fn radio(alloc: Global) -> Result<Bytes, AllocError> {
     copy(alloc, &RADIO)
 }
 
-fn is_first_update(answer: Option<Bytes>) -> bool {
-    is_answer(answer, Some(&FIRST_UPDATE))
-}
-
 // The worked release of both packages, for the mote m1.
 fn add_both(alloc: Global, keeper: &mut MemoryKeeper) -> Result<bool, RowsFault> {
     if !add_version(alloc, keeper, 1, 1, sender(alloc)?)? {
@@ -265,28 +261,56 @@ fn answers(
     Ok(is_answer(answer, row.2))
 }
 
+// Whether the answers of these rows are theirs.
+fn are_answers(
+    alloc: Global,
+    keeper: &mut MemoryKeeper,
+    rows: &[(&str, u32, Option<&[u8]>)],
+) -> Result<bool, RowsFault> {
+    for row in rows {
+        if !answers(alloc, keeper, *row)? {
+            return Ok(false);
+        }
+    }
+    Ok(true)
+}
+
+// Whether the worked release's update is this one, and the other answers are those of these rows.
+fn is_worked(
+    alloc: Global,
+    first: &[u8],
+    rows: &[(&str, u32, Option<&[u8]>)],
+) -> Result<bool, RowsFault> {
+    let mut keeper = MemoryKeeper::new(alloc, Vec::new(alloc));
+    if !add_both(alloc, &mut keeper)? {
+        return Ok(false);
+    }
+    if !answers(alloc, &mut keeper, ("m1", 0, Some(first)))? {
+        return Ok(false);
+    }
+    are_answers(alloc, &mut keeper, rows)
+}
+
 #[test]
 fn worked_update(rt: HostRuntime) -> Result<(), Fail> {
-    let alloc = rt.alloc();
-    let mut keeper = MemoryKeeper::new(alloc, Vec::new(alloc));
-    assert!(rt; add_both(alloc, &mut keeper)?);
-    assert!(rt; is_first_update(update_frames(alloc, &mut keeper, "m1", 0)?));
-    for row in WORKED {
-        assert!(rt; answers(alloc, &mut keeper, row)?, "from {}", row.1);
-    }
+    assert!(rt; is_worked(rt.alloc(), &FIRST_UPDATE, &WORKED)?);
     Ok(())
 }
 
 // Each call fails once: the count of releases, both releases, and both packages of the last.
-#[test]
-fn failing_calls(rt: HostRuntime) -> Result<(), Fail> {
-    let alloc = rt.alloc();
+fn count_failing(alloc: Global, calls: u32) -> Result<u32, AllocError> {
     let mut failed: u32 = 0;
-    for call in 1..100u32 {
+    for call in 1..calls {
         if fails(alloc, call)? {
             failed = failed.saturating_add(1);
         }
     }
+    Ok(failed)
+}
+
+#[test]
+fn failing_calls(rt: HostRuntime) -> Result<(), Fail> {
+    let failed = count_failing(rt.alloc(), 100)?;
     assert_eq!(rt; failed, 5);
     Ok(())
 }
@@ -332,23 +356,33 @@ fn has_pieces(alloc: Global, length: u16, pieces: &[Piece]) -> Result<bool, Rows
     }
 }
 
+fn have_pieces(alloc: Global, rows: &[(u16, &[Piece])]) -> Result<bool, RowsFault> {
+    for (length, pieces) in rows {
+        if !has_pieces(alloc, *length, pieces)? {
+            return Ok(false);
+        }
+    }
+    Ok(true)
+}
+
 #[test]
 fn sizes(rt: HostRuntime) -> Result<(), Fail> {
-    for (length, pieces) in SIZES {
-        assert!(rt; has_pieces(rt.alloc(), length, pieces)?, "of {length}");
-    }
+    assert!(rt; have_pieces(rt.alloc(), &SIZES)?);
     Ok(())
 }
 
-// The greatest package fills all its 39 pages.
-#[test]
-fn greatest_package(rt: HostRuntime) -> Result<(), Fail> {
-    let alloc = rt.alloc();
+// Whether the greatest package fills all its 39 pages.
+fn fills_its_pages(alloc: Global) -> Result<bool, RowsFault> {
     let mut pieces = Vec::new(alloc);
     for page in 0..39u8 {
         pieces.push((0, page, 256))?;
     }
-    assert!(rt; has_pieces(alloc, 9984, &pieces)?);
+    has_pieces(alloc, 9984, &pieces)
+}
+
+#[test]
+fn greatest_package(rt: HostRuntime) -> Result<(), Fail> {
+    assert!(rt; fills_its_pages(rt.alloc())?);
     Ok(())
 }
 
@@ -378,14 +412,19 @@ const VERSIONS: [(u16, u16, u16); 5] = [
     (2, 2, 258),
 ];
 
-fn add_all(alloc: Global, keeper: &mut MemoryKeeper) -> Result<bool, RowsFault> {
-    for (component, version, length) in VERSIONS {
-        let bytes = package(alloc, component, version, length)?;
-        if !add_version(alloc, keeper, component, version, bytes)? {
+fn add_all(
+    alloc: Global,
+    keeper: &mut MemoryKeeper,
+    versions: &[(u16, u16, u16)],
+    releases: &[&[(u16, u16)]],
+) -> Result<bool, RowsFault> {
+    for (component, version, length) in versions {
+        let bytes = package(alloc, *component, *version, *length)?;
+        if !add_version(alloc, keeper, *component, *version, bytes)? {
             return Ok(false);
         }
     }
-    for parts in RELEASES {
+    for parts in releases {
         if !add_release(alloc, keeper, "m1", parts)? {
             return Ok(false);
         }
@@ -393,29 +432,50 @@ fn add_all(alloc: Global, keeper: &mut MemoryKeeper) -> Result<bool, RowsFault> 
     Ok(true)
 }
 
-fn steps(
+// Whether the updates to this release of so many components have these pieces.
+fn are_steps(
     alloc: Global,
     keeper: &mut MemoryKeeper,
-    have: u32,
-    pieces: &[Piece],
+    release: u16,
+    count: u8,
+    rows: &[(u32, &[Piece])],
 ) -> Result<bool, RowsFault> {
-    match update_frames(alloc, keeper, "m1", have)? {
-        Some(bytes) => Ok(is_update(bytes.as_slice(), 5, 3, pieces)),
-        None => Ok(false),
+    for (have, pieces) in rows {
+        let Some(bytes) = update_frames(alloc, keeper, "m1", *have)? else {
+            return Ok(false);
+        };
+        if !is_update(bytes.as_slice(), release, count, pieces) {
+            return Ok(false);
+        }
     }
+    Ok(true)
+}
+
+// What is answered where there is nothing to send.
+const OF_FIVE: [(&str, u32, Option<&[u8]>); 3] = [
+    ("m1", 5, Some(&END)),
+    ("m1", 6, None),
+    ("m2", 0, None),
+];
+
+fn is_from_each(
+    alloc: Global,
+    steps: &[(u32, &[Piece])],
+    rows: &[(&str, u32, Option<&[u8]>)],
+) -> Result<bool, RowsFault> {
+    let mut keeper = MemoryKeeper::new(alloc, Vec::new(alloc));
+    if !add_all(alloc, &mut keeper, &VERSIONS, &RELEASES)? {
+        return Ok(false);
+    }
+    if !are_steps(alloc, &mut keeper, 5, 3, steps)? {
+        return Ok(false);
+    }
+    are_answers(alloc, &mut keeper, rows)
 }
 
 #[test]
 fn from_each_release(rt: HostRuntime) -> Result<(), Fail> {
-    let alloc = rt.alloc();
-    let mut keeper = MemoryKeeper::new(alloc, Vec::new(alloc));
-    assert!(rt; add_all(alloc, &mut keeper)?);
-    for (have, pieces) in STEPS {
-        assert!(rt; steps(alloc, &mut keeper, have, pieces)?, "from {have}");
-    }
-    assert!(rt; answers(alloc, &mut keeper, ("m1", 5, Some(&END)))?);
-    assert!(rt; answers(alloc, &mut keeper, ("m1", 6, None))?);
-    assert!(rt; answers(alloc, &mut keeper, ("m2", 0, None))?);
+    assert!(rt; is_from_each(rt.alloc(), &STEPS, &OF_FIVE)?);
     Ok(())
 }
 
@@ -447,42 +507,37 @@ fn add_sixteen(alloc: Global, keeper: &mut MemoryKeeper) -> Result<bool, RowsFau
     add_release(alloc, keeper, "m1", &second)
 }
 
-fn of_sixteen(
-    alloc: Global,
-    keeper: &mut MemoryKeeper,
-    have: u32,
-    pieces: &[Piece],
-) -> Result<bool, RowsFault> {
-    match update_frames(alloc, keeper, "m1", have)? {
-        Some(bytes) => Ok(is_update(bytes.as_slice(), 2, 16, pieces)),
-        None => Ok(false),
-    }
-}
-
-#[test]
-fn sixteen_components(rt: HostRuntime) -> Result<(), Fail> {
-    let alloc = rt.alloc();
+fn is_of_sixteen(alloc: Global) -> Result<bool, RowsFault> {
     let mut keeper = MemoryKeeper::new(alloc, Vec::new(alloc));
-    assert!(rt; add_sixteen(alloc, &mut keeper)?);
+    if !add_sixteen(alloc, &mut keeper)? {
+        return Ok(false);
+    }
     let mut pieces = Vec::new(alloc);
     for ordinal in 0..15u8 {
         pieces.push((ordinal, 0, 32))?;
     }
     pieces.push((15, 0, 34))?;
-    assert!(rt; of_sixteen(alloc, &mut keeper, 0, &pieces)?);
-    assert!(rt; of_sixteen(alloc, &mut keeper, 1, &[(15, 0, 34)])?);
+    if !are_steps(alloc, &mut keeper, 2, 16, &[(0, &pieces)])? {
+        return Ok(false);
+    }
+    are_steps(alloc, &mut keeper, 2, 16, &[(1, &[(15, 0, 34)])])
+}
+
+#[test]
+fn sixteen_components(rt: HostRuntime) -> Result<(), Fail> {
+    assert!(rt; is_of_sixteen(rt.alloc())?);
     Ok(())
 }
 
 // A thousand releases, in turn of version 2 and version 1 of one component.
-fn add_thousand(alloc: Global, keeper: &mut MemoryKeeper) -> Result<bool, RowsFault> {
+fn add_thousand(alloc: Global, keeper: &mut MemoryKeeper, half: u32) -> Result<bool, RowsFault> {
     if !add_version(alloc, keeper, 1, 1, package(alloc, 1, 1, 32)?)? {
         return Ok(false);
     }
     if !add_version(alloc, keeper, 1, 2, package(alloc, 1, 2, 34)?)? {
         return Ok(false);
     }
-    for _ in 0..500 {
+    for _ in 0..half {
         if !add_release(alloc, keeper, "m1", &[(1, 2)])? {
             return Ok(false);
         }
@@ -502,30 +557,28 @@ const OF_THOUSAND: [(u32, &[Piece]); 6] = [
     (999, &[(0, 0, 32)]),
 ];
 
-fn of_thousand(
+const BEHIND_THOUSAND: [(&str, u32, Option<&[u8]>); 2] = [
+    ("m1", 1000, Some(&END)),
+    ("m1", 1001, None),
+];
+
+fn is_of_thousand(
     alloc: Global,
-    keeper: &mut MemoryKeeper,
-    have: u32,
-    pieces: &[Piece],
+    steps: &[(u32, &[Piece])],
+    rows: &[(&str, u32, Option<&[u8]>)],
 ) -> Result<bool, RowsFault> {
-    match update_frames(alloc, keeper, "m1", have)? {
-        Some(bytes) => Ok(is_update(bytes.as_slice(), 1000, 1, pieces)),
-        None => Ok(false),
+    let mut keeper = MemoryKeeper::new(alloc, Vec::new(alloc));
+    if !add_thousand(alloc, &mut keeper, 500)? {
+        return Ok(false);
     }
+    if !are_steps(alloc, &mut keeper, 1000, 1, steps)? {
+        return Ok(false);
+    }
+    are_answers(alloc, &mut keeper, rows)
 }
 
 #[test]
 fn thousand_releases(rt: HostRuntime) -> Result<(), Fail> {
-    let alloc = rt.alloc();
-    let mut keeper = MemoryKeeper::new(alloc, Vec::new(alloc));
-    assert!(rt; add_thousand(alloc, &mut keeper)?);
-    for (have, pieces) in OF_THOUSAND {
-        assert!(rt;
-            of_thousand(alloc, &mut keeper, have, pieces)?,
-            "from {have}"
-        );
-    }
-    assert!(rt; answers(alloc, &mut keeper, ("m1", 1000, Some(&END)))?);
-    assert!(rt; answers(alloc, &mut keeper, ("m1", 1001, None))?);
+    assert!(rt; is_of_thousand(rt.alloc(), &OF_THOUSAND, &BEHIND_THOUSAND)?);
     Ok(())
 }
