@@ -443,41 +443,6 @@ fn gives_numbers_where_there_is_room(rt: HostRuntime) -> Result<(), Fail> {
     Ok(())
 }
 
-/// Bytes of the sender that are written over, and the refusal; the section table begins at byte 442.
-const REFUSED: [(usize, &[u8], &[i64]); 6] = [
-    (0, &[0x7E], &[102, 0]),
-    (18, &[82], &[103, 18]),
-    (566, &[17], &[110, 562, 17]),
-    (202, &[0xF2, 0xFF], &[202, 3]),
-    (71, &[33], &[203, 4, 0, 33]),
-    (79, &[0], &[205, 4, 1]),
-];
-
-fn check_refused(
-    rt: &impl Abort,
-    alloc: Global,
-    object: &[u8],
-    at: usize,
-    bytes: &[u8],
-    wanted: &[i64],
-) -> Result<(), Fail> {
-    let bad = edited(alloc, object, &[(at, bytes)])?;
-    check_case(rt, alloc, &bad, EMPTY, wanted)
-}
-
-#[test]
-fn refuses_what_is_no_package(rt: HostRuntime) -> Result<(), Fail> {
-    let object = sender(rt.alloc())?;
-    for (at, bytes, wanted) in REFUSED {
-        check_refused(&rt, rt.alloc(), &object, at, bytes, wanted)?;
-    }
-    // Cut inside its section table.
-    if object.len() > 900 {
-        check_case(&rt, rt.alloc(), &object[..900], EMPTY, &[105, 32])?;
-    }
-    check_case(&rt, rt.alloc(), &[], EMPTY, &[101, 0])
-}
-
 /// The package of the radio as component 2 in version 1, where its name has number 18.
 const RADIO_PACKAGE: [u8; 40] = [
     0x46, 0x43, 0x50, 0x31, 2, 0, 1, 0, 2, 0, 0, 0, 0, 0, 1, 0, 0, 0, 0, 0, 0, 0, 0, 0, 0, 0, 0, 0,
