@@ -111,20 +111,6 @@ fn sender(alloc: Global) -> Result<Vec<u8>, AllocError> {
     Ok(out)
 }
 
-/// The file with bytes written over some of its own.
-fn edited(alloc: Global, file: &[u8], edits: &[(usize, &[u8])]) -> Result<Vec<u8>, AllocError> {
-    let mut out = file.to_vec(alloc)?;
-    for (at, bytes) in edits {
-        if *at <= out.len() {
-            let (_, tail) = out.as_mut_slice().split_at_mut(*at);
-            for (place, b) in tail.iter_mut().zip(bytes.iter()) {
-                *place = *b;
-            }
-        }
-    }
-    Ok(out)
-}
-
 /// The package of the sender as component 1 in version 1, where its names have numbers 16, 17 and 18.
 const PACKAGE: [u8; 102] = [
     0x46, 0x43, 0x50, 0x31, 1, 0, 1, 0, 18, 0, 8, 0, 2, 0, 2, 0, 4, 0, 0, 0, 0, 0, 0, 0, 0, 0, 0,
