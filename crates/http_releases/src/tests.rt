@@ -7,8 +7,11 @@ use release_keeper::MemoryKeeper;
 use std::alloc::Global;
 use std::test::Fail;
 
+// A request, the status of its reply, and the reply.
+type Row<'a> = (&'a [u8], u16, &'a [u8]);
+
 // An object without code. What it answers is by another program.
-const ROWS: [(&[u8], u16, &[u8]); 25] = [
+const ROWS: [Row<'static>; 25] = [
     (
         b"GET /motes/none HTTP/1.1\r\n\r\n",
         404,
@@ -155,16 +158,24 @@ fn serve(
     Ok((served, sink.bytes().to_vec(alloc)?))
 }
 
-#[test]
-fn requests_have_their_replies(rt: HostRuntime) -> Result<(), Fail> {
-    for chunk in [8192, 1] {
-        let mut keeper = MemoryKeeper::new(rt.alloc(), Vec::new(rt.alloc()));
-        for (input, status, reply) in ROWS {
-            let (served, written) = serve(rt.alloc(), &mut keeper, input, chunk, 0)?;
-            assert_eq!(rt; served, Served::Done(status));
-            assert_eq!(rt; written.as_slice(), reply);
+// The first of these requests in a row that has another reply.
+fn first_wrong(alloc: Global, chunk: usize, rows: &[Row<'_>]) -> Result<Option<usize>, Fail>
+    requires { 0 < chunk }
+{
+    let mut keeper = MemoryKeeper::new(alloc, Vec::new(alloc));
+    for (i, (input, status, reply)) in rows.iter().enumerate() {
+        let (served, written) = serve(alloc, &mut keeper, input, chunk, 0)?;
+        if served != Served::Done(*status) || written.as_slice() != *reply {
+            return Ok(Some(i));
         }
     }
+    Ok(None)
+}
+
+#[test]
+fn requests_have_their_replies(rt: HostRuntime) -> Result<(), Fail> {
+    assert_eq!(rt; first_wrong(rt.alloc(), 8192, &ROWS)?, None);
+    assert_eq!(rt; first_wrong(rt.alloc(), 1, &ROWS)?, None);
     Ok(())
 }
 
@@ -185,10 +196,10 @@ fn a_cut_request_has_no_reply(rt: HostRuntime) -> Result<(), Fail> {
 }
 
 // How many replies say that the keeper failed, where each request has its own reply when it comes again; none where one hasn't.
-fn failures(alloc: Global, failing: u32) -> Result<Option<u32>, Fail> {
+fn failures(alloc: Global, failing: u32, rows: &[Row<'_>]) -> Result<Option<u32>, Fail> {
     let mut keeper = MemoryKeeper::new(alloc, [failing].to_vec(alloc)?);
     let mut failures = 0u32;
-    for (input, _, reply) in ROWS {
+    for (input, _, reply) in rows {
         let (served, written) = serve(alloc, &mut keeper, input, 8192, 0)?;
         let mut last = written;
         if served == Served::Done(503) {
@@ -199,7 +210,7 @@ fn failures(alloc: Global, failing: u32) -> Result<Option<u32>, Fail> {
             let (_, written) = serve(alloc, &mut keeper, input, 8192, 0)?;
             last = written;
         }
-        if last.as_slice() != reply {
+        if last.as_slice() != *reply {
             return Ok(None);
         }
     }
@@ -209,28 +220,40 @@ fn failures(alloc: Global, failing: u32) -> Result<Option<u32>, Fail> {
 // How many calls on the keeper the replies to all requests take.
 const CALLS: u32 = 47;
 
+// The first of so many calls whose failing doesn't come out as one reply.
+fn first_calm(alloc: Global, calls: u32, rows: &[Row<'_>]) -> Result<Option<u32>, Fail> {
+    for failing in 1..calls.saturating_add(1) {
+        if failures(alloc, failing, rows)? != Some(1) {
+            return Ok(Some(failing));
+        }
+    }
+    Ok(None)
+}
+
 #[test]
 fn each_call_fails_once(rt: HostRuntime) -> Result<(), Fail> {
-    for failing in 1..CALLS + 1 {
-        assert_eq!(rt; failures(rt.alloc(), failing)?, Some(1), "{failing}");
-    }
-    assert_eq!(rt; failures(rt.alloc(), CALLS + 1)?, Some(0));
+    assert_eq!(rt; first_calm(rt.alloc(), CALLS, &ROWS)?, None);
+    assert_eq!(rt; failures(rt.alloc(), CALLS + 1, &ROWS)?, Some(0));
     Ok(())
+}
+
+// Whether a request that was done, but whose reply failed at this write, has its reply when it comes again.
+fn stays(alloc: Global, row: Row<'_>, fail: u32) -> Result<bool, Fail> {
+    let (input, status, reply) = row;
+    let mut keeper = MemoryKeeper::new(alloc, Vec::new(alloc));
+    let mut source = MemorySource::new(input.to_vec(alloc)?, 8192, Vec::new(alloc));
+    let mut sink = MemorySink::new(alloc, 400, [fail].to_vec(alloc)?)?;
+    let served = serve_connection(alloc, &mut source, &mut sink, &mut keeper);
+    if served != Served::WriteFault || !reply.starts_with(sink.bytes()) {
+        return Ok(false);
+    }
+    let (served, written) = serve(alloc, &mut keeper, input, 8192, 0)?;
+    Ok(served == Served::Done(status) && written.as_slice() == reply)
 }
 
 #[test]
 fn what_was_accepted_stays_where_the_reply_is_lost(rt: HostRuntime) -> Result<(), Fail> {
-    let (input, _, reply) = ROWS[5];
-    for fail in [1, 2] {
-        let mut keeper = MemoryKeeper::new(rt.alloc(), Vec::new(rt.alloc()));
-        let mut source = MemorySource::new(input.to_vec(rt.alloc())?, 8192, Vec::new(rt.alloc()));
-        let mut sink = MemorySink::new(rt.alloc(), 400, [fail].to_vec(rt.alloc())?)?;
-        let served = serve_connection(rt.alloc(), &mut source, &mut sink, &mut keeper);
-        assert_eq!(rt; served, Served::WriteFault);
-        assert!(rt; reply.starts_with(sink.bytes()));
-        let (served, written) = serve(rt.alloc(), &mut keeper, input, 8192, 0)?;
-        assert_eq!(rt; served, Served::Done(201));
-        assert_eq!(rt; written.as_slice(), reply);
-    }
+    assert!(rt; stays(rt.alloc(), ROWS[5], 1)?);
+    assert!(rt; stays(rt.alloc(), ROWS[5], 2)?);
     Ok(())
 }
