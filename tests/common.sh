@@ -63,6 +63,40 @@ need_packages() { # COMMAND PACKAGE..
   fi
 }
 
+# ---- a release server
+
+# Whether something listens on this port of this machine. Nobody is asked, so that no connection is spent.
+listens() { # PORT
+  grep -q ": [0-9A-F]*:$(printf %04X "$1") 00000000:0000 0A " /proc/net/tcp
+}
+
+# Starts the release server in $release_server on a port that is free; it listens at $at as the process $server.
+serve() { # DATABASE [CONNECTIONS]
+  local port
+  for _ in 1 2 3 4 5; do
+    port=$((20000 + RANDOM % 12000))
+    if listens "$port"; then continue; fi
+    "$release_server" "127.0.0.1:$port" "$1" --connections "${2:-1000000}" &
+    server=$!
+    at=127.0.0.1:$port
+    for _ in $(seq 400); do
+      if listens "$port"; then return 0; fi
+      if ! kill -0 "$server" 2>/dev/null; then break; fi
+      sleep 0.01
+    done
+    kill -9 "$server" 2>/dev/null
+    wait "$server" 2>/dev/null
+  done
+  echo "$(basename "$0"): the release server didn't start" >&2
+  exit 1
+}
+
+# Ends the server as a power cut would.
+kill_server() {
+  kill -9 "$server" 2>/dev/null
+  wait "$server" 2>/dev/null
+}
+
 # ---- bytes of our formats (docs/FORMATS.md)
 
 # Numbers of one, two and four bytes, the low byte first.

@@ -1,0 +1,5 @@
+    .text
+    .global far
+far:
+    rcall elsewhere
+    brne elsewhere

@@ -1,0 +1,5 @@
+    .text
+    .global elsewhere
+    .skip 5000
+elsewhere:
+    rjmp .-2
