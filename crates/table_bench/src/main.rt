@@ -4,18 +4,18 @@
 //! also prints, to standard error, how long each step and the linker took.
 #![tactic(auto)]
 
+ghost use Rattle.std.specs.Prelude.{◌<◌};
 ghost use Rattle.component_store.specs.Sets.{IsSet};
 ghost use Rattle.symbol_merge.specs.Stored.{IsPlanOf};
 
-mod board;
 mod sets;
 mod steps;
 
 use anyhow::{Result, bail, ensure};
-use board::CountingBoard;
 use component_package::Bytes;
-use component_package::areas::{IMAGE_PAGES, RELOCATION_PAGES, SYMBOL_PAGES};
+use component_package::areas::{IMAGE_PAGES, RELOCATION_PAGES, STAGED, SYMBOL_PAGES};
 use component_store::StoredSet;
+use counting_board::CountingBoard;
 use full_linker::{link, may_be_linked};
 use layout_plan::Plan;
 use sets::{COMPONENTS, SHAPES, Shape, package};
@@ -26,6 +26,9 @@ use steps::{STEPS, Step, manifest_of, opened, planned, store, takes};
 
 /// How often each step and the linker are timed.
 const TIMES: u32 = 20;
+
+/// Room for a program of each page of the slots and of the three areas.
+const PROGRAMS: u32 = 2048;
 
 fn packages(alloc: Global, shape: &Shape) -> Result<Vec<Bytes>> {
     let mut packages = Vec::new(alloc);
@@ -47,7 +50,7 @@ fn pages_of(packages: &[Bytes]) -> u32 {
 
 /// A board whose first slots hold the packages.
 fn stored(alloc: Global, packages: &[Bytes]) -> Result<CountingBoard> {
-    let Ok(mut board) = CountingBoard::new(alloc) else {
+    let Ok(mut board) = CountingBoard::new(alloc, PROGRAMS, 0) else {
         bail!("no memory for a board");
     };
     let mut slot = 0u8;
@@ -112,11 +115,19 @@ fn linked(alloc: Global, set: &[Bytes]) -> Result<Vec<u8>> {
     }
 }
 
+/// A byte of the staged image.
+fn staged_byte(board: &CountingBoard, at: u32) -> u8
+    requires { at < 122880 }
+{
+    let page = board.ext_page(STAGED + (at / 256) as u16);
+    page[(at % 256) as usize]
+}
+
 /// Whether the staged image is this one, with 0xFF behind it.
 fn is_staged(board: &CountingBoard, image: &[u8]) -> bool {
     for at in 0..122_880u32 {
         let want = image.get(at as usize).copied().unwrap_or(0xFF);
-        if board.staged_byte(at) != want {
+        if staged_byte(board, at) != want {
             return false;
         }
     }

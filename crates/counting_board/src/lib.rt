@@ -1,0 +1,10 @@
+//! A board in memory that counts how often pages are read and programmed.
+#![tactic(auto)]
+
+mod board;
+mod reads;
+#[cfg(test)]
+mod tests;
+
+pub use board::{CountingBoard, Programs};
+pub use reads::Reads;
