@@ -1,14 +1,24 @@
--- How rows of an answer spell what is kept.
-use Rattle.std.specs.Prelude.{ℕ, ◌+◌, pos, List, [], ◌∷◌}
-use Rattle.sqlite_value.specs.declared.value.Value.{Value}
-use Rattle.sqlite_value.specs.declared.value.Value.TheVariants.{Int}
+-- What the rows of an answer hold.
+use Rattle.std.specs.Prelude.{◌≡◌, ℕ, ◌+◌, pos, List, [], ◌∷◌}
+use Rattle.sqlite_value.specs.declared.value.Value.TheVariants.{Int, Text, Blob}
+use Rattle.sqlite_value.specs.Order.{Row, column}
 use Rattle.release_rows.specs.declared.part.Numbered.{Numbered}
+use Rattle.release_rows.specs.declared.row.KeyRow.{KeyRow}
 
--- a part's row: its place in the release, its component and its version
-abbrev pub part_row : ℕ → Numbered → List Value
-part_row ordinal p = Int (pos ordinal) ∷ Int (pos p.component) ∷ Int (pos p.version) ∷ []
+-- a key's digest and its body
+pub record IsKeyIn (key : List ℕ) (row : Row) (k : KeyRow) : Type 0 where
+  pub name : k.key ≡ key
+  pub digest : column row 0 ≡ Blob k.digest
+  pub body : column row 1 ≡ Text k.body
 
--- the rows of parts in their order, from this place on
-abbrev pub part_rows : ℕ → List Numbered → List (List Value)
-part_rows ordinal [] = []
-part_rows ordinal (p ∷ ps) = part_row ordinal p ∷ part_rows (ordinal + 1) ps
+-- a part's place in its release, its component and its version
+pub record IsPartIn (row : Row) (place : ℕ) (p : Numbered) : Type 0 where
+  pub place_is : column row 0 ≡ Int (pos place)
+  pub component : column row 1 ≡ Int (pos p.component)
+  pub version : column row 2 ≡ Int (pos p.version)
+
+-- the parts of a release from a place on, one a row, in their order
+abbrev pub ArePartsFrom : ℕ → List Row → List Numbered → Type 0
+ArePartsFrom place [] [] = Unit {0}
+ArePartsFrom place (r ∷ rs) (p ∷ ps) = IsPartIn r place p × ArePartsFrom (place + 1) rs ps
+ArePartsFrom place _ _ = ⊥

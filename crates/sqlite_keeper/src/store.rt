@@ -1,5 +1,8 @@
 //! The file, opened at the first call, and the rows in it.
 
+ghost use Rattle.std.specs.Prelude.{IfOk, IfSome};
+ghost use Rattle.release_rows.specs.Change.{IsPackageOf, IsPartList};
+
 use crate::database::{
     Database, close, end, ends_connection, fault_of, is_idle, make_tables, open, rows_of, run,
 };
@@ -273,7 +276,9 @@ impl<'a> Store<'a> {
         &mut self,
         component: u16,
         version: u16,
-    ) -> Result<Option<Bytes>, RowsFault> {
+    ) -> Result<Option<Bytes>, RowsFault>
+        ensures { IfOk result (λ r. IfSome r (IsPackageOf component version)) }
+    {
         match self.row(PACKAGE, params![u32::from(component), u32::from(version)])? {
             Some(row) => Ok(Some(package_in(&row, component, version)?)),
             None => Ok(None),
@@ -290,7 +295,9 @@ impl<'a> Store<'a> {
         &mut self,
         mote: &str,
         number: u32,
-    ) -> Result<Option<NumberedParts>, RowsFault> {
+    ) -> Result<Option<NumberedParts>, RowsFault>
+        ensures { IfOk result (λ r. IfSome r IsPartList) }
+    {
         let rows = self.rows(PARTS, params![mote, number])?;
         if rows.is_empty() {
             return Ok(None);
