@@ -1,4 +1,3 @@
-use Rattle.std.proofs.Common.{ℕ}
 use Rattle.tcp_connections.proofs.sockets.linger.Given as goal
 
 abbrev pub decreases-loop-room : goal.decreases-loop-room
