@@ -1,1 +1,3 @@
 pub mod Listener
+pub mod Conns
+pub mod Memory
