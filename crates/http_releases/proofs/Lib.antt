@@ -2,3 +2,4 @@ mod Shown
 mod Founds
 mod Chains
 mod Dues
+mod Statuses

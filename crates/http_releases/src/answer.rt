@@ -106,6 +106,7 @@ pub(crate) fn reply_to<Q: Keeper>(
 ) -> Reply
     requires short { length body.items ≤ 262144 }
     ensures replies { RepliesOver (shown asking.entry) body.items (Q.view keeper.old) (Q.view keeper.new) result }
+    ensures later { (Q.view keeper.old).faults ≤ (Q.view keeper.new).faults }
 {
     match answer(alloc, keeper, asking, body) {
         Ok(reply) => reply,

@@ -1,5 +1,5 @@
 //! What holds of the replies that are due.
-ghost use Rattle.http_releases.specs.Laws.{RepliesAgree};
+ghost use Rattle.http_releases.specs.Laws.{RepliesAgree, UnavailableTells};
 
 use http_requests::law::kinds_agree;
 use link_laws::image_exists_once;
@@ -12,3 +12,8 @@ pub fn replies_agree()
     kinds_agree();
     image_exists_once();
 }
+
+/// A reply that is due says that the keeper failed only where the keeper's count of faults rose.
+pub fn unavailable_tells()
+    ensures { UnavailableTells }
+{}

@@ -1,5 +1,5 @@
 //! One connection, from its first byte to its last.
-ghost use Rattle.std.specs.Prelude.{◌≡◌, ◌≢◌, ℕ, List, length, Some, None};
+ghost use Rattle.std.specs.Prelude.{◌≡◌, ◌≢◌, ◌≤◌, ℕ, List, length, Some, None};
 ghost use Rattle.http_edges.specs.Edge.{Rose};
 ghost use Rattle.http_paths.specs.Routes.{routes};
 ghost use Rattle.http_requests.specs.Taken.{IsTakenWithin, TellsKind};
@@ -49,6 +49,7 @@ fn prepare<Q: Keeper>(
     ensures prepared { (input : List ℕ) → TellsKind input buffer.now headers.now taken → (t : Tables) → (Q.view keeper.old).tables ≡ Some t
         → IsPrepared result input t (Q.view keeper.old) (Q.view keeper.new) }
     ensures idle { result ≡ None → Q.view keeper.new ≡ Q.view keeper.old }
+    ensures later { (Q.view keeper.old).faults ≤ (Q.view keeper.new).faults }
 {
     match taken {
         Taken::Whole(whole) => {
@@ -69,6 +70,7 @@ fn finish<K: Sink>(sink: &mut K, reply: &Reply) -> Served
     ensures idle { (keeper : View) → Idles result (K.view sink.old) (K.view sink.new) keeper keeper }
     ensures read_fault { result ≢ Served.ReadFault }
     ensures fault { result ≡ Served.WriteFault → Rose (K.view sink.old).faults (K.view sink.new).faults }
+    ensures later { (K.view sink.old).faults ≤ (K.view sink.new).faults }
 {
     let body = reply.content.as_slice();
     let Ok(()) = write_reply(sink, reply.status, reply.media, body) else {
@@ -83,6 +85,7 @@ fn finish_without_memory<K: Sink>(sink: &mut K) -> Served
     ensures idle { (keeper : View) → Idles result (K.view sink.old) (K.view sink.new) keeper keeper }
     ensures read_fault { result ≢ Served.ReadFault }
     ensures write_fault { result ≡ Served.WriteFault → Rose (K.view sink.old).faults (K.view sink.new).faults }
+    ensures later { (K.view sink.old).faults ≤ (K.view sink.new).faults }
 {
     let reply = no_memory();
     finish(sink, &reply)
@@ -106,6 +109,9 @@ fn serve<S: Source, K: Sink, Q: Keeper>(
     ensures idle { Idles result (K.view sink.old) (K.view sink.new) (Q.view keeper.old) (Q.view keeper.new) }
     ensures read_fault { result ≡ Served.ReadFault → Rose (S.view source.old).faults (S.view source.new).faults }
     ensures write_fault { result ≡ Served.WriteFault → Rose (K.view sink.old).faults (K.view sink.new).faults }
+    ensures source_later { (S.view source.old).faults ≤ (S.view source.new).faults }
+    ensures sink_later { (K.view sink.old).faults ≤ (K.view sink.new).faults }
+    ensures keeper_later { (Q.view keeper.old).faults ≤ (Q.view keeper.new).faults }
 {
     let Ok(taken) = take_request(alloc, source, buffer, headers) else {
         return Served::ReadFault;
@@ -118,7 +124,8 @@ fn serve<S: Source, K: Sink, Q: Keeper>(
 
 /// Serves one connection: reads one request, decides it over the keeper, and writes one reply.
 ///
-/// `ReadFault` and `WriteFault` come only where the source's or the sink's count of faults rose. The reply 507 takes no memory.
+/// `ReadFault` and `WriteFault` come only where the source's or the sink's count of faults rose. No count of faults falls. The reply 507 takes no
+/// memory.
 pub fn serve_connection<S: Source, K: Sink, Q: Keeper>(
     alloc: Global,
     source: &mut S,
@@ -130,6 +137,9 @@ pub fn serve_connection<S: Source, K: Sink, Q: Keeper>(
     ensures idle { Idles result (K.view sink.old) (K.view sink.new) (Q.view keeper.old) (Q.view keeper.new) }
     ensures read_fault { result ≡ Served.ReadFault → Rose (S.view source.old).faults (S.view source.new).faults }
     ensures write_fault { result ≡ Served.WriteFault → Rose (K.view sink.old).faults (K.view sink.new).faults }
+    ensures source_later { (S.view source.old).faults ≤ (S.view source.new).faults }
+    ensures sink_later { (K.view sink.old).faults ≤ (K.view sink.new).faults }
+    ensures keeper_later { (Q.view keeper.old).faults ≤ (Q.view keeper.new).faults }
 {
     let Ok(router) = make_router(alloc) else {
         return finish_without_memory(sink);
