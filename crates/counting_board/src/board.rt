@@ -112,7 +112,8 @@ impl CountingBoard {
     /// Counts from 0 again.
     pub fn forget(&mut self)
         ensures counts { counts_of self.new ≡ no_counts }
-        ensures board { counting_view self.new ≡ counting_view self.old }
+        ensures state { (counting_view self.new).state ≡ (counting_view self.old).state }
+        ensures left { (counting_view self.new).left ≡ (counting_view self.old).left }
     {
         for page in 0..PAGES {
             self.ext_reads[page] = 0;
