@@ -1,16 +1,12 @@
 -- How many pages of external flash were read, by what they hold.
-use Rattle.std.specs.Prelude.{◌≡◌, ℕ, List, max, take, drop}
-use Rattle.std.specs.List.{sum, fold}
+use Rattle.std.specs.Prelude.{◌≡◌, ℕ, List, take, drop}
+use Rattle.std.specs.List.{sum}
 use Rattle.counting_board.specs.Counting.{saturated}
 use Rattle.counting_board.specs.declared.reads.Reads.{Reads}
 
 -- the reads of so many pages from this one on
 abbrev pub reads_in : List ℕ → ℕ → ℕ → ℕ
 reads_in pages first count = saturated (sum (take count (drop first pages)))
-
--- the greatest of these, 0 where there is none
-abbrev pub greatest : List ℕ → ℕ
-greatest = fold max 0
 
 -- the reads of each kind of pages: 8 gates and two manifests of 5 pages, 32 pages of symbols, 256 of
 -- relocations, 480 of the staged image, and the slots behind them
@@ -20,4 +16,3 @@ pub record CountsReads (pages : List ℕ) (r : Reads) : Type 0 where
   pub relocations : r.relocations ≡ reads_in pages 50 256
   pub staged : r.staged ≡ reads_in pages 306 480
   pub packages : r.packages ≡ saturated (sum (drop 786 pages))
-  pub most : r.most ≡ greatest pages

@@ -7,10 +7,7 @@ ghost use Rattle.counting_board.specs.Counting.{one_more, reads_one, no_counts};
 
 use crate::reads::Reads;
 use flash_pages::{Board, BoardPlan, Failed, MemoryBoard, NoMemory};
-use std::alloc::{AllocError, Global};
-
-// How many pages external flash has.
-const PAGES: usize = 2048;
+use std::alloc::Global;
 
 /// How often pages were programmed.
 #[derive(Clone, Copy, Debug, PartialEq, Eq)]
@@ -42,17 +39,6 @@ fn calm(alloc: Global) -> BoardPlan {
     }
 }
 
-// A 0 for each page.
-fn zeros(alloc: Global) -> Result<Vec<u32>, AllocError>
-    ensures { IfOk result (λ counts. counts.items ≡ replicate 2048 0) }
-{
-    let mut counts = Vec::new(alloc);
-    for done in 0..PAGES {
-        counts.push(0)?;
-    }
-    Ok(counts)
-}
-
 // One more, or as many as a count can hold.
 fn one_more(count: u32) -> u32
     ensures { result ≡ one_more count }
@@ -81,7 +67,7 @@ impl CountingBoard {
     {
         Ok(CountingBoard {
             board: MemoryBoard::new(alloc, &[], calm(alloc), programs, sent)?,
-            ext_reads: zeros(alloc)?,
+            ext_reads: vec![in alloc; 0; 2048]?,
             programs: Programs {
                 external: 0,
                 program: 0,
@@ -115,9 +101,7 @@ impl CountingBoard {
         ensures state { (counting_view self.new).state ≡ (counting_view self.old).state }
         ensures left { (counting_view self.new).left ≡ (counting_view self.old).left }
     {
-        for page in 0..PAGES {
-            self.ext_reads[page] = 0;
-        }
+        self.ext_reads.fill(0);
         self.programs = Programs {
             external: 0,
             program: 0,

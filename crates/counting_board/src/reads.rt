@@ -3,7 +3,7 @@
 ghost use Rattle.std.specs.Prelude.{◌≡◌, ◌+◌, length};
 ghost use Rattle.std.specs.List.{sum};
 ghost use Rattle.counting_board.specs.Counting.{saturated};
-ghost use Rattle.counting_board.specs.Reads.{CountsReads, greatest};
+ghost use Rattle.counting_board.specs.Reads.{CountsReads};
 
 use component_package::areas::{MANIFEST_A, RELOCATIONS, SLOTS, STAGED, SYMBOLS};
 use std::fmt;
@@ -49,9 +49,7 @@ fn sum_of(counts: &[u32]) -> u32
 }
 
 // The greatest of these, or 0 where there is none.
-fn greatest_of(counts: &[u32]) -> u32
-    ensures { result ≡ greatest counts.now }
-{
+fn greatest_of(counts: &[u32]) -> u32 {
     let mut most = 0;
     for count in counts {
         most = most.max(*count);
