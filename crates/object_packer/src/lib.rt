@@ -24,6 +24,3 @@ mod symbols;
 pub use fault::PackFault;
 pub use names::{Names, names_of};
 pub use packing::pack;
-
-#[cfg(test)]
-mod tests;

@@ -1,12 +1,18 @@
 //! What is refused of the neighbours of the object: the first fault of each.
 
-use super::*;
+use crate::objects::{Edits, edited, sender};
+use avr_elf::read_object;
+use object_packer::{PackFault, names_of};
+use std::alloc::{AllocError, Global};
+use std::test::Fail;
 
 /// The object with bytes written over its own, and its first fault.
+type Case = (Edits, Option<PackFault>);
+
 ///
 /// Section headers begin at 442 and have 40 bytes: section 4 at 602, 5 at 642, 8 at 762. Symbols begin
 /// at 140 and have 16 bytes, relocations of `.text.send` at 67 and have 12.
-const CASES: [(Edits, Option<PackFault>); 59] = [
+const CASES: [Case; 59] = [
     // Sections: an alignment, a name, and the first of two.
     (&[(634, &[2])], None),
     (&[(634, &[4])], Some(PackFault::Section(4))),
@@ -182,40 +188,54 @@ fn fault_of(alloc: Global, file: &[u8]) -> Option<PackFault> {
 }
 
 // Whether the edited file has this fault.
-fn has_fault(
-    alloc: Global,
-    file: &[u8],
-    edits: Edits,
-    fault: Option<PackFault>,
-) -> Result<bool, AllocError> {
+fn has_fault(alloc: Global, file: &[u8], case: Case) -> Result<bool, AllocError> {
+    let (edits, fault) = case;
     let bad = edited(alloc, file, edits)?;
     Ok(fault_of(alloc, &bad) == fault)
 }
 
-// The file with so many bytes of zero behind it.
-fn longer(alloc: Global, file: &[u8], zeros: usize) -> Result<Vec<u8>, AllocError> {
-    let mut out = file.to_vec(alloc)?;
-    for _ in 0..zeros {
-        out.push(0)?;
+// The first of these cases that has another fault.
+fn first_wrong(alloc: Global, file: &[u8], cases: &[Case]) -> Result<Option<usize>, AllocError> {
+    for (i, case) in cases.iter().enumerate() {
+        if !has_fault(alloc, file, *case)? {
+            return Ok(Some(i));
+        }
     }
-    Ok(out)
+    Ok(None)
 }
 
 #[test]
 fn answers_the_first_fault(rt: HostRuntime) -> Result<(), Fail> {
     let file = sender(rt.alloc())?;
-    for (edits, fault) in &CASES {
-        assert!(rt; has_fault(rt.alloc(), &file, edits, *fault)?, "{edits:?}");
-    }
+    assert_eq!(rt; first_wrong(rt.alloc(), &file, &CASES)?, None);
     Ok(())
+}
+
+// The file with so many bytes of zero behind it.
+fn longer(alloc: Global, file: &[u8], zeros: usize) -> Result<Vec<u8>, AllocError> {
+    let mut out = file.to_vec(alloc)?;
+    out.resize(file.len().saturating_add(zeros), 0)?;
+    Ok(out)
+}
+
+// The first of these lengths and cases that has another fault.
+fn first_wrong_size(
+    alloc: Global,
+    file: &[u8],
+    cases: &[(usize, Edits, Option<PackFault>)],
+) -> Result<Option<usize>, AllocError> {
+    for (i, (zeros, edits, fault)) in cases.iter().enumerate() {
+        let long = longer(alloc, file, *zeros)?;
+        if !has_fault(alloc, &long, (edits, *fault))? {
+            return Ok(Some(i));
+        }
+    }
+    Ok(None)
 }
 
 #[test]
 fn answers_what_is_too_long(rt: HostRuntime) -> Result<(), Fail> {
     let file = sender(rt.alloc())?;
-    for (zeros, edits, fault) in &SIZES {
-        let file = longer(rt.alloc(), &file, *zeros)?;
-        assert!(rt; has_fault(rt.alloc(), &file, edits, *fault)?, "{edits:?}");
-    }
+    assert_eq!(rt; first_wrong_size(rt.alloc(), &file, &SIZES)?, None);
     Ok(())
 }
