@@ -1,7 +1,7 @@
 -- Lists of different numbers, as a loop comes along.
 use Rattle.std.proofs.Common.{◌≡◌, ℕ, ◌+◌, ◌<◌, ◌≤◌, Bool, true, false, List, [], ◌∷◌, ◌++◌, length, get_or, take, drop, refl, sym, ap, ap₂, ◌∙◌, arith, zero, suc, set}
 use Rattle.std.specs.Prelude.{◌==◌, ◌&&◌, ◌||◌, not, nat_le}
-use Rattle.std.specs.List.{All, list_any, list_all}
+use Rattle.std.specs.List.{list_any, list_all}
 use Rattle.std.proofs.lemmas.List.{take_more, take_all, take-append-drop, get_or-set_same, get_or-set_other}
 use Rattle.std.proofs.lemmas.List.Folds.{list_any-append, list_any_more}
 use Rattle.std.proofs.lemmas.Bool.{and_parts, eqb-true}
@@ -90,19 +90,5 @@ mark_more seen bound xs i lt long below were k fits = from (get_or xs i 0 == k) 
 
 -- ---- what tests say
 
-pub all_cons : {X : Type 0} (P : X → Type 0) (x : X) (xs : List X) → P x → All P xs → All P (x ∷ xs)
-all_cons P x xs here rest zero d lt = here
-all_cons P x xs here rest (suc k) d lt = rest k d (omega (arith, lt))
-
-pub high_means : (ns : List ℕ) → list_all (λ n. nat_le 16 n) ns ≡ true → All (λ n. 16 ≤ n) ns
-high_means [] e = λ k d lt. absurd (omega (arith, lt))
-high_means (n ∷ ns) e =
-    let parts = and_parts (nat_le 16 n) (list_all (λ n. nat_le 16 n) ns) e in
-    let here : 16 ≤ n = grind (arith, nat_tests, parts.0) in
-    all_cons (λ n. 16 ≤ n) n ns here (high_means ns parts.1)
-
 pub symbols_differ : (ns : List ℕ) → are_symbols ns ≡ true → AreDistinct ns
 symbols_differ ns e = distinct_means ns (and_parts (are_distinct ns) (list_all (λ n. nat_le 16 n) ns) e).0
-
-pub symbols_high : (ns : List ℕ) → are_symbols ns ≡ true → All (λ n. 16 ≤ n) ns
-symbols_high ns e = high_means ns (and_parts (are_distinct ns) (list_all (λ n. nat_le 16 n) ns) e).1

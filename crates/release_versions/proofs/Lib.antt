@@ -3,9 +3,4 @@ pub mod Different
 pub mod Judged
 pub mod KeptNumbers
 pub mod Wanting
-pub mod Growing
-pub mod Keeps
-pub mod PackedBytes
-pub mod Asks
-pub mod Done
 pub mod Sizes

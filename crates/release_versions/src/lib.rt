@@ -9,7 +9,7 @@ mod numbers;
 mod refusal;
 mod version;
 
-pub use law::{kept_numbers_differ, refused_for_want, version_keeps};
+pub use law::{kept_numbers_differ, refused_for_want};
 pub use version::judge_version;
 
 #[cfg(test)]
