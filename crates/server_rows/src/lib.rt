@@ -8,6 +8,8 @@ mod keeper;
 #[cfg(test)]
 mod objects;
 #[cfg(test)]
+mod rules;
+#[cfg(test)]
 mod updates;
 #[cfg(test)]
 mod versions;
