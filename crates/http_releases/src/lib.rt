@@ -10,7 +10,5 @@ pub mod law;
 mod post;
 mod reply;
 mod serve;
-#[cfg(test)]
-mod tests;
 
 pub use serve::{Served, serve_connection};

@@ -1,8 +1,8 @@
 //! Requests in a row over one keeper, and each call on the keeper and on both ends failing once.
 ghost use Rattle.std.specs.Prelude.{◌<◌};
 
-use crate::{Served, serve_connection};
 use http_edges::{MemorySink, MemorySource};
+use http_releases::{Served, serve_connection};
 use release_keeper::MemoryKeeper;
 use std::alloc::Global;
 use std::test::Fail;
@@ -179,18 +179,26 @@ fn requests_have_their_replies(rt: HostRuntime) -> Result<(), Fail> {
     Ok(())
 }
 
+const CUT: &[u8] =
+    b"POST /motes/m/acks HTTP/1.1\r\nRequest-Key: k\r\nContent-Length: 14\r\n\r\n{\"release\":1}";
+
+// Whether this comes of the cut request, in pieces of so many bytes and where this read fails, and no byte is written.
+fn comes_to(alloc: Global, chunk: usize, fail: u32, wanted: Served) -> Result<bool, Fail>
+    requires { 0 < chunk }
+{
+    let mut keeper = MemoryKeeper::new(alloc, Vec::new(alloc));
+    let (served, written) = serve(alloc, &mut keeper, CUT, chunk, fail)?;
+    Ok(served == wanted && written.is_empty())
+}
+
 #[test]
 fn a_cut_request_has_no_reply(rt: HostRuntime) -> Result<(), Fail> {
-    let mut keeper = MemoryKeeper::new(rt.alloc(), Vec::new(rt.alloc()));
-    let input =
-        b"POST /motes/m/acks HTTP/1.1\r\nRequest-Key: k\r\nContent-Length: 14\r\n\r\n{\"release\":1}";
-    let (served, written) = serve(rt.alloc(), &mut keeper, input, 10, 0)?;
-    assert_eq!(rt; served, Served::Truncated);
-    assert_eq!(rt; written.len(), 0);
+    assert!(rt; comes_to(rt.alloc(), 10, 0, Served::Truncated)?);
     for fail in 1..4 {
-        let (served, written) = serve(rt.alloc(), &mut keeper, input, 30, fail)?;
-        assert_eq!(rt; served, Served::ReadFault, "{fail}");
-        assert_eq!(rt; written.len(), 0);
+        assert!(rt;
+            comes_to(rt.alloc(), 30, fail, Served::ReadFault)?,
+            "{fail}"
+        );
     }
     Ok(())
 }
@@ -251,9 +259,18 @@ fn stays(alloc: Global, row: Row<'_>, fail: u32) -> Result<bool, Fail> {
     Ok(served == Served::Done(status) && written.as_slice() == reply)
 }
 
+// Whether all of these requests have their replies when they come again.
+fn all_stay(alloc: Global, rows: &[Row<'_>]) -> Result<bool, Fail> {
+    for row in rows {
+        if !stays(alloc, *row, 1)? || !stays(alloc, *row, 2)? {
+            return Ok(false);
+        }
+    }
+    Ok(true)
+}
+
 #[test]
 fn what_was_accepted_stays_where_the_reply_is_lost(rt: HostRuntime) -> Result<(), Fail> {
-    assert!(rt; stays(rt.alloc(), ROWS[5], 1)?);
-    assert!(rt; stays(rt.alloc(), ROWS[5], 2)?);
+    assert!(rt; all_stay(rt.alloc(), &ROWS[5..6])?);
     Ok(())
 }
