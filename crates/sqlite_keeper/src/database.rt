@@ -3,7 +3,7 @@
 ghost use Rattle.std.specs.Prelude.{◌≡◌};
 ghost use Rattle.sqlite_keeper.specs.Faults.{fault_of};
 
-use crate::schema::{BEGIN, COMMIT, ROLLBACK, TABLES, TABLE_TEXT};
+use crate::schema::{BEGIN, COMMIT, ROLLBACK, TABLE_TEXT, TABLES};
 use release_rows::RowsFault;
 use sqlite::types::ValueRef;
 use sqlite::{Connection, Error, ErrorCode, FileFrom, FileStore, Row, Wary, params};

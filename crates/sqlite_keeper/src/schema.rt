@@ -57,7 +57,8 @@ pub(crate) const COMPONENT: &str = "SELECT number FROM components WHERE name = ?
 
 pub(crate) const COMPONENT_NAME: &str = "SELECT name FROM components WHERE number = ?1";
 
-pub(crate) const LAST_COMPONENT: &str = "SELECT number FROM components ORDER BY number DESC LIMIT 1";
+pub(crate) const LAST_COMPONENT: &str =
+    "SELECT number FROM components ORDER BY number DESC LIMIT 1";
 
 pub(crate) const LAST_VERSION: &str =
     "SELECT version FROM versions WHERE component = ?1 ORDER BY version DESC LIMIT 1";

@@ -11,13 +11,9 @@ use crate::schema::{
     COMPONENT_NAME, KEY, LAST_COMPONENT, LAST_RELEASE, LAST_SYMBOL, LAST_VERSION, PACKAGE, PARTS,
     SET_ACK, SYMBOL,
 };
-use crate::values::{
-    key_row_in, package_in, parts_in, small_in, symbols_up_to, text_in, value_in,
-};
+use crate::values::{key_row_in, package_in, parts_in, small_in, symbols_up_to, text_in, value_in};
 use component_package::{Bytes, Text};
-use release_rows::{
-    Change, Effect, KeyRow, Numbered, NumberedParts, RowsFault, SymbolRow,
-};
+use release_rows::{Change, Effect, KeyRow, Numbered, NumberedParts, RowsFault, SymbolRow};
 use sqlite::types::ValueRef;
 use sqlite::{Error, Row, params};
 use std::alloc::Global;
