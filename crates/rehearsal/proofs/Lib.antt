@@ -1,2 +1,4 @@
+mod Pages
 mod Sent
+mod Told
 mod Tops

@@ -2,10 +2,10 @@
 
 ghost use Rattle.std.specs.Prelude.{◌≡◌, ◌<◌, ◌≤◌, ◌++◌, ◌∷◌, [], length, List, ℕ, OnOk, OnErr, IfErr, IfOk, Some, decimal, is_ok};
 ghost use Rattle.flash_pages.specs.State.{State, SendsPart};
-ghost use Rattle.flash_pages.specs.Board.{Rose, UsesLine};
+ghost use Rattle.flash_pages.specs.Board.{Rose, Told, UsesLine};
 ghost use Rattle.hex.specs.Hex.{encode_lower};
 ghost use Rattle.mote_core.specs.Sending.{SendsBut};
-ghost use Rattle.rehearsal.specs.Lines.{OnlySends};
+ghost use Rattle.rehearsal.specs.Lines.{OnlySends, SendsPiece};
 
 use flash_pages::{Board, Failed};
 use itoa::Buffer;
@@ -60,6 +60,7 @@ pub(crate) fn boot_line(
 /// Sends a line. Nothing else is done on the board.
 pub(crate) fn send<B: Board>(board: &mut B, from: &[u8]) -> Result<(), Failed>
     ensures only { OnlySends (B.view board.old) (B.view board.new) }
+    ensures sent { Told (B.view board.old) (λ s. SendsPiece from.now (is_ok result) s (B.view board.new)) }
     ensures no_fault { OnOk result ((B.view board.new).line_faults ≡ (B.view board.old).line_faults) }
     ensures failed { OnErr result (Rose (B.view board.old).line_faults (B.view board.new).line_faults) }
 {

@@ -1,5 +1,11 @@
 //! The mote of a rehearsal: sessions on a board in memory.
 
+ghost use Rattle.std.specs.Prelude.{◌≡◌, ◌↔◌, IsTrue};
+ghost use Rattle.std.specs.List.{concat};
+ghost use Rattle.sha2.specs.Sha256.{sha256};
+ghost use Rattle.flash_pages.specs.Memory.{memory_state};
+ghost use Rattle.component_package.specs.link.Pages.{cut};
+
 use component_package::Answer;
 use flash_pages::{BoardPlan, MemoryBoard, NoMemory};
 use mote_core::{format, run_session, write_line};
@@ -70,8 +76,33 @@ pub(crate) fn has_started(mote: &MemoryBoard, release: u32) -> bool {
     mote.sent_bytes() == &line[..length as usize]
 }
 
+// Whether two pieces hold the same bytes.
+fn is_same(a: &[u8], b: &[u8]) -> bool
+    ensures { IsTrue result ↔ (a.now ≡ b.now) }
+{
+    a == b
+}
+
+/// Whether program flash holds these 122,880 bytes.
+pub(crate) fn holds(mote: &MemoryBoard, whole: &[u8]) -> bool
+    ensures { IsTrue result → (memory_state mote.now).prog ≡ cut whole.now }
+{
+    if whole.len() < 256 * PAGES as usize {
+        return false;
+    }
+    for page in 0..PAGES {
+        let at = 256 * page as usize;
+        if !is_same(mote.prog_page(page).as_slice(), &whole[at..at + 256]) {
+            return false;
+        }
+    }
+    true
+}
+
 /// The digest of program flash.
-pub(crate) fn program_digest(mote: &MemoryBoard) -> [u8; 32] {
+pub(crate) fn program_digest(mote: &MemoryBoard) -> [u8; 32]
+    ensures { result ≡ sha256 (concat (memory_state mote.now).prog) }
+{
     let mut hasher = Sha256::new();
     for page in 0..PAGES {
         hasher.update(mote.prog_page(page).as_slice());

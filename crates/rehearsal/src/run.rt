@@ -1,12 +1,16 @@
 //! The rehearsal.
 
-ghost use Rattle.std.specs.Prelude.{◌≡◌, ◌≢◌};
+ghost use Rattle.std.specs.Prelude.{◌≡◌, ◌≢◌, ◌+◌, ◌≤◌, ℕ, IfOk, codes};
 ghost use Rattle.flash_pages.specs.Board.{Rose};
-ghost use Rattle.rehearsal.specs.Lines.{OnlySends, EndsRehearsal};
+ghost use Rattle.update_laws.specs.Update.{components_in};
+ghost use Rattle.drawn_releases.specs.Generator.{release_drawn};
+ghost use Rattle.rehearsal.specs.Lines.{TellsSet, Tells, IsCutLine, OnlySends, EndsRehearsal};
 
+use crate::flash::flash_of;
 use crate::lines::{boot_line, send};
-use crate::mote::{calm_session, cut, formatted, has_started, program_digest, session};
+use crate::mote::{calm_session, cut, formatted, has_started, holds, program_digest, session};
 use crate::release::Release;
+use crate::stop::Stop;
 use component_package::Bytes;
 use drawn_releases::Delivered;
 use flash_pages::{Board, MemoryBoard};
@@ -15,46 +19,35 @@ use std::alloc::{AllocError, Global};
 // How many releases are installed.
 const RELEASES: u32 = 20;
 
-// There was no memory.
-#[derive(Drop)]
-struct NoMemory;
-
-impl From<AllocError> for NoMemory {
-    fn from(_error: AllocError) -> NoMemory {
-        NoMemory
-    }
-}
-
-impl From<component_package::NoMemory> for NoMemory {
-    fn from(_error: component_package::NoMemory) -> NoMemory {
-        NoMemory
-    }
-}
-
-impl From<flash_pages::NoMemory> for NoMemory {
-    fn from(_error: flash_pages::NoMemory) -> NoMemory {
-        NoMemory
-    }
-}
-
-// A rehearsal so far: the mote, the number and the packages that it has, and the last release that was drawn.
+// A rehearsal so far: the mote, and the release that it has.
 #[derive(Drop)]
 struct Rehearsal {
     mote: MemoryBoard,
-    number: u32,
-    packages: Vec<Delivered>,
     release: Release,
 }
 
-// A line, and how the rehearsal then stands.
+// A release was brought to a mote in a session in which power was cut: the line of the boot behind it, the packages of the release
+// before, and whether the mote has the new one.
 #[derive(Drop)]
-struct Step {
+struct Cut {
+    line: Vec<u8>,
+    mote: MemoryBoard,
+    olds: Vec<Delivered>,
+    release: Release,
+    is_new: bool,
+}
+
+// It was then brought whole: the line of the boot behind that.
+#[derive(Drop)]
+struct Whole {
     line: Vec<u8>,
     rehearsal: Rehearsal,
 }
 
 // A copy of a package.
-fn copy(alloc: Global, delivered: &Delivered) -> Result<Delivered, AllocError> {
+fn copy(alloc: Global, delivered: &Delivered) -> Result<Delivered, AllocError>
+    ensures { IfOk result (λ d. d ≡ delivered.now) }
+{
     Ok(Delivered {
         component: delivered.component,
         version: delivered.version,
@@ -63,7 +56,9 @@ fn copy(alloc: Global, delivered: &Delivered) -> Result<Delivered, AllocError> {
 }
 
 // Copies of packages.
-fn copies(alloc: Global, packages: &[Delivered]) -> Result<Vec<Delivered>, AllocError> {
+fn copies(alloc: Global, packages: &[Delivered]) -> Result<Vec<Delivered>, AllocError>
+    ensures { IfOk result (λ v. v.items ≡ packages.now) }
+{
     let mut copies = Vec::new(alloc);
     for delivered in packages {
         copies.push(copy(alloc, delivered)?)?;
@@ -71,75 +66,133 @@ fn copies(alloc: Global, packages: &[Delivered]) -> Result<Vec<Delivered>, Alloc
     Ok(copies)
 }
 
-fn begin(alloc: Global, number: u32) -> Result<Rehearsal, NoMemory> {
-    let mote = formatted(alloc)?;
+fn begin(alloc: Global, number: u32) -> Result<Rehearsal, Stop>
+    ensures { IfOk result (λ r. r.release ≡ release_drawn number 0) }
+{
     Ok(Rehearsal {
-        mote,
-        number: 0,
-        packages: Vec::new(alloc),
+        mote: formatted(alloc)?,
         release: Release::begin(alloc, number),
     })
 }
 
-// The mote has this number and these packages now.
-fn has(mote: MemoryBoard, number: u32, packages: Vec<Delivered>, release: Release) -> Rehearsal {
-    Rehearsal {
-        mote,
-        number,
-        packages,
-        release,
+// The line of a boot, where the mote has started this release and its program flash holds what the set's image is, linked from scratch.
+fn told(
+    alloc: Global,
+    word: &[u8],
+    release: u32,
+    packages: &[Delivered],
+    mote: &MemoryBoard,
+) -> Result<Vec<u8>, Stop>
+    ensures { IfOk result (λ v. TellsSet word.now release (components_in packages.now) v.items) }
+{
+    let whole = flash_of(alloc, packages)?;
+    if !has_started(mote, release) {
+        return Err(Stop::NotStarted);
     }
+    if !holds(mote, &whole) {
+        return Err(Stop::NotStarted);
+    }
+    let digest = program_digest(mote);
+    let line = boot_line(alloc, word, release, &digest)?;
+    Ok(line)
 }
 
-// The line of a boot.
-fn told(alloc: Global, word: &[u8], rehearsal: Rehearsal) -> Result<Step, NoMemory> {
-    let digest = program_digest(&rehearsal.mote);
-    let line = boot_line(alloc, word, rehearsal.number, &digest)?;
-    Ok(Step { line, rehearsal })
+// The line of the boot behind a cut: of the new release where the mote has started it, else of the one before.
+fn cut_line(
+    alloc: Global,
+    mote: &MemoryBoard,
+    is_new: bool,
+    olds: &[Delivered],
+    news: &[Delivered],
+    next: u32,
+) -> Result<Vec<u8>, Stop>
+    requires { 1 ≤ next }
+    ensures { (number : ℕ) → (before : ℕ) → before + 1 ≡ next → olds.now ≡ (release_drawn number before).packages →
+        news.now ≡ (release_drawn number next).packages → IfOk result (λ v. IsCutLine number next v.items) }
+{
+    if is_new {
+        return told(alloc, b"cut ", next, news, mote);
+    }
+    told(alloc, b"cut ", next - 1, olds, mote)
 }
 
-// Draws the next release and brings it, in a session in which power is cut; the line of the boot behind it.
-fn cut_step(alloc: Global, rehearsal: Rehearsal) -> Result<Step, NoMemory> {
-    let Rehearsal {
-        mote,
-        number,
-        packages,
-        release,
-    } = rehearsal;
-    let release = release.advance(alloc)?;
-    let next = number.wrapping_add(1);
-    let frames = release.frames(alloc, number, &packages, next)?;
+// Brings a release over the one before, in a session in which power is cut; and the session behind it.
+fn cut_sessions(
+    alloc: Global,
+    mote: MemoryBoard,
+    release: &Release,
+    olds: &[Delivered],
+    next: u32,
+) -> Result<MemoryBoard, Stop>
+    requires { 1 ≤ next }
+{
+    let frames = release.frames(alloc, next - 1, olds, next)?;
     let plan = cut(alloc, release.stop(), release.fill());
     let mote = session(alloc, mote, &frames, plan)?;
     let mote = calm_session(alloc, mote, &[])?;
-    if has_started(&mote, next) {
-        let packages = copies(alloc, release.packages())?;
-        return told(alloc, b"cut ", has(mote, next, packages, release));
-    }
-    told(alloc, b"cut ", has(mote, number, packages, release))
+    Ok(mote)
 }
 
-// Brings the drawn release whole, as the one of this number, where the mote doesn't have it; the line of the boot behind it.
-fn whole_step(alloc: Global, rehearsal: Rehearsal, next: u32) -> Result<Step, NoMemory> {
-    let Rehearsal {
+// Draws the next release and brings it, in a session in which power is cut.
+fn cut_step(alloc: Global, rehearsal: Rehearsal, next: u32) -> Result<Cut, Stop>
+    requires { 1 ≤ next }
+    ensures { (number : ℕ) → (before : ℕ) → before + 1 ≡ next → rehearsal.release ≡ release_drawn number before →
+        IfOk result (λ c. (c.release ≡ release_drawn number next) × IsCutLine number next c.line.items) }
+{
+    let Rehearsal { mote, release } = rehearsal;
+    let olds = copies(alloc, release.packages())?;
+    let release = release.advance(alloc)?;
+    let mote = match cut_sessions(alloc, mote, &release, &olds, next) {
+        Ok(mote) => mote,
+        Err(stop) => return Err(stop),
+    };
+    let is_new = has_started(&mote, next);
+    match cut_line(alloc, &mote, is_new, &olds, release.packages(), next) {
+        Ok(line) => Ok(Cut {
+            line,
+            mote,
+            olds,
+            release,
+            is_new,
+        }),
+        Err(stop) => Err(stop),
+    }
+}
+
+// Brings the drawn release whole, as the one of this number, where the mote doesn't have it.
+fn whole_step(alloc: Global, cut: Cut, next: u32) -> Result<Whole, Stop>
+    requires { 1 ≤ next }
+    ensures { (number : ℕ) → cut.release ≡ release_drawn number next →
+        IfOk result (λ w. (w.rehearsal.release ≡ release_drawn number next) × Tells (codes "boot ") number next w.line.items) }
+{
+    let Cut {
         mote,
-        number,
-        packages,
+        olds,
         release,
-    } = rehearsal;
-    let frames = release.frames(alloc, number, &packages, next)?;
+        is_new,
+        ..
+    } = cut;
+    let have = if is_new { next } else { next - 1 };
+    let frames = release.frames(alloc, have, &olds, next)?;
     let mote = calm_session(alloc, mote, &frames)?;
     let mote = calm_session(alloc, mote, &[])?;
-    let packages = copies(alloc, release.packages())?;
-    told(alloc, b"boot ", has(mote, next, packages, release))
+    let line = told(alloc, b"boot ", next, release.packages(), &mote)?;
+    Ok(Whole {
+        line,
+        rehearsal: Rehearsal { mote, release },
+    })
 }
 
 /// Rehearses twenty releases drawn from the number: each is brought to a mote in memory, in a session in which power is cut and then in
 /// a whole one. Behind each of the two a line is sent, `cut F H` and `boot R H`: the release that the mote started, and the digest of
 /// its program flash; at last `done 20`.
 ///
-/// The status is 0 where all was sent, 1 where there was no memory, and 5 only where line faults rose. Nothing but sends is done on
-/// the board.
+/// F is R or the release before it, and H is the digest of what the set of that release is, linked from scratch, with 0xFF behind it. A line is
+/// sent only where the mote said that it started that release, and its program flash holds just this.
+///
+/// The status is 0 where all was sent, and 5 only where line faults rose. It is 1 where there was no memory. It would be 1 as well, and
+/// no line is sent then, if the mote had not started a release so; that this can't be is not proved. Nothing but sends is done on the
+/// board.
 pub fn rehearse<B: Board>(alloc: Global, board: &mut B, number: u32) -> u8
     ensures only { OnlySends (B.view board.old) (B.view board.new) }
     ensures failed { result ≡ 5 → Rose (B.view board.old).line_faults (B.view board.new).line_faults }
@@ -150,13 +203,13 @@ pub fn rehearse<B: Board>(alloc: Global, board: &mut B, number: u32) -> u8
         return 1;
     };
     for release in 1..RELEASES + 1 {
-        let Ok(cut) = cut_step(alloc, rehearsal) else {
+        let Ok(cut) = cut_step(alloc, rehearsal, release) else {
             return 1;
         };
         let Ok(()) = send(board, &cut.line) else {
             return 5;
         };
-        let Ok(whole) = whole_step(alloc, cut.rehearsal, release) else {
+        let Ok(whole) = whole_step(alloc, cut, release) else {
             return 1;
         };
         let Ok(()) = send(board, &whole.line) else {
