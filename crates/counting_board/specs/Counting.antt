@@ -1,5 +1,5 @@
 -- Counts that stay at their end.
-use Rattle.std.specs.Prelude.{ℕ, List, ◌+◌, ◌-◌, ◌^◌, min, slice_set, slice_index, replicate}
+use Rattle.std.specs.Prelude.{ℕ, List, ◌+◌, ◌-◌, ◌^◌, min, slice_set, slice_index}
 
 -- so many, or as many as a count can hold
 abbrev pub saturated : ℕ → ℕ
@@ -19,7 +19,3 @@ pub record Counts : Type 0 where
   pub ext_reads : List ℕ
   pub ext_programs : ℕ
   pub prog_programs : ℕ
-
--- nothing was counted
-abbrev pub no_counts : Counts
-no_counts = record { ext_reads = replicate 2048 0; ext_programs = 0; prog_programs = 0 }

@@ -1,3 +1,2 @@
 pub mod Counting
-pub mod Reads
 pub mod Counts

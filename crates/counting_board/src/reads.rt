@@ -3,7 +3,6 @@
 ghost use Rattle.std.specs.Prelude.{◌≡◌, ◌+◌, length};
 ghost use Rattle.std.specs.List.{sum};
 ghost use Rattle.counting_board.specs.Counting.{saturated};
-ghost use Rattle.counting_board.specs.Reads.{CountsReads};
 
 use component_package::areas::{MANIFEST_A, RELOCATIONS, SLOTS, STAGED, SYMBOLS};
 use std::fmt;
@@ -61,7 +60,6 @@ impl Reads {
     /// The reads of the pages of external flash, from those of each page.
     pub(crate) fn of(pages: &[u32]) -> Reads
         requires { length pages.now ≡ 2048 }
-        ensures { CountsReads pages.now result }
     {
         Reads {
             records: sum_of(&pages[..SYMBOLS as usize]),
