@@ -76,7 +76,7 @@ of_answer (gets_image mote number) body t r (a, image, is) = ap (λ (x : Respons
 -- ---- so the keeper failed where a reply that is due says it
 
 other : (r : Response) → is_unavailable r.status ≡ false → r.status ≡ ServiceUnavailable → (P : Type 0) → P
-other r no is P = absurd (false≢true (sym no ∙ ap is_unavailable is))
+other r isnt is P = absurd (false≢true (sym isnt ∙ ap is_unavailable is))
 
 pub failed_where_said : (input : List ℕ) (t : Tables) (before after : ℕ) (r : Response) → IsDue input t (Rose before after) r → r.status ≡ ServiceUnavailable → Rose before after
 failed_where_said input t before after r (of_no_head is e) said = other r (ap (λ (x : Response). is_unavailable x.status) e) said (Rose before after)
