@@ -711,7 +711,7 @@ fn the_greatest_numbers_are_kept(rt: HostRuntime) -> Result<(), Fail> {
 }
 
 // Statements that damage rows.
-const DAMAGES: [&str; 13] = [
+const DAMAGES: [&str; 14] = [
     "UPDATE versions SET package = x'46435031' WHERE component = 1 AND version = 1",
     "UPDATE versions SET component = 9 WHERE component = 2",
     "INSERT INTO versions (component, version, package) VALUES (8, 3, 'text'), (7, 65536, x'00'), (6, -1, x'00')",
@@ -723,7 +723,8 @@ const DAMAGES: [&str; 13] = [
     "INSERT INTO acks (mote, number) VALUES ('m3', 'one')",
     "UPDATE keys SET digest = x'0102' WHERE key = 'k1'",
     "UPDATE keys SET body = x'FF' WHERE key = 'k2'",
-    "INSERT INTO components (number, name) VALUES (3, CAST(x'FF' AS TEXT)), (65536, 'wide')",
+    "INSERT INTO components (number, name) VALUES (65536, 'wide')",
+    "INSERT INTO components (number, name) VALUES (3, CAST(x'FF' AS TEXT))",
     "INSERT INTO symbols (number, name) VALUES (65536, x'01')",
 ];
 
