@@ -119,3 +119,28 @@ cut_old bytes number before next olds (Err e) after are tells = tt
 pub boot_told : (number next : ℕ) (news : List Delivered) (line : List ℕ) → news ≡ (release_drawn number next).packages
     → TellsSet (codes "boot ") next (components_in news) line → Tells (codes "boot ") number next line
 boot_told number next news line are tells = subst (λ (ds : List Delivered). TellsSet (codes "boot ") next (components_in ds) line) are tells
+
+-- ---- the two lines of release r
+
+pub cut_line_is : (number r : ℕ) (line said : List ℕ) → 1 ≤ r → r ≤ 20 → line ≡ said → IsCutLine number r said → IsLine number (2 * (r - 1)) line
+cut_line_is number r line said some few spelled is =
+    cut_is number (2 * (r - 1)) r line some few refl (subst (λ (bytes : List ℕ). IsCutLine number r bytes) (sym spelled) is)
+
+pub boot_line_is : (number r : ℕ) (line said : List ℕ) → 1 ≤ r → r ≤ 20 → line ≡ said → Tells (codes "boot ") number r said → IsLine number (suc (2 * (r - 1))) line
+boot_line_is number r line said some few spelled is =
+    boot_is number (suc (2 * (r - 1))) r line some few (omega arith) (subst (λ (bytes : List ℕ). Tells (codes "boot ") number r bytes) (sym spelled) is)
+
+pub cut_told : (number r : ℕ) (line said : List ℕ) (s : State) (mid new : View) → 1 ≤ r → r ≤ 20 → HasLines number (2 * (r - 1)) s mid → line ≡ said
+    → IsCutLine number r said → ((z : State) → mid.state ≡ Some z → SendsPiece line true z new) → HasLines number (suc (2 * (r - 1))) s new
+cut_told number r line said s mid new some few has spelled is sends =
+    line_told number (2 * (r - 1)) line s mid new has (cut_line_is number r line said some few spelled is) sends
+
+pub both_told : (number r : ℕ) (line said : List ℕ) (s : State) (mid new : View) → 1 ≤ r → r ≤ 20 → HasLines number (suc (2 * (r - 1))) s mid → line ≡ said
+    → Tells (codes "boot ") number r said → ((z : State) → mid.state ≡ Some z → SendsPiece line true z new) → HasLines number (2 * (r + 1 - 1)) s new
+both_told number r line said s mid new some few has spelled is sends =
+    let count : suc (suc (2 * (r - 1))) ≡ 2 * (r + 1 - 1) = omega (arith, some) in
+    subst (λ (n : ℕ). HasLines number n s new) count
+    (line_told number (suc (2 * (r - 1))) line s mid new has (boot_line_is number r line said some few spelled is) sends)
+
+pub all_told : (number end : ℕ) (s : State) (v : View) → end ≡ 21 → HasLines number (2 * (end - 1)) s v → HasLines number 40 s v
+all_told number end s v is has = subst (λ (n : ℕ). HasLines number (2 * (n - 1)) s v) is has

@@ -1,5 +1,6 @@
 -- How a rehearsal ends, as the top call says it.
-use Rattle.std.proofs.Common.{◌≡◌, ◌≢◌, ap, arith, ℕ, List, length}
+use Rattle.std.proofs.Common.{◌≡◌, ◌≢◌, ◌∙◌, ◌<◌, ◌^◌, ap, sym, arith, ℕ, List, [], length, slice_index_or}
+use Rattle.session_laws.proofs.Lines.{same_number}
 use Rattle.flash_pages.specs.Board.{View, Rose}
 use Rattle.mote_core.specs.declared.command.Command.{Command}
 use Rattle.mote_core.specs.Top.{words_of}
@@ -13,6 +14,11 @@ two_words c words number one two =
     let first : length words ≡ 1 = ap length one in
     let second : length words ≡ 2 = ap length two in
     omega (arith, first, second)
+
+-- the words say one number
+pub one_number : (m n : ℕ) (words : List (List ℕ)) → m < 2 ^ 32 → words ≡ rehearse_words m → words ≡ rehearse_words n → m ≡ n
+one_number m n words small first second =
+    same_number m n (ap (λ (ws : List (List ℕ)). slice_index_or ws 1 []) (sym first ∙ second)) (omega (arith, small))
 
 -- no rehearsal ends with a fault of the flash, nor as words that say nothing
 pub not_four : (status : ℕ) → EndsRehearsal status → status ≡ 4 → ⊥

@@ -1,10 +1,10 @@
 //! The rehearsal.
 
 ghost use Rattle.std.specs.Prelude.{◌≡◌, ◌≢◌, ◌+◌, ◌≤◌, ℕ, IfOk, codes};
-ghost use Rattle.flash_pages.specs.Board.{Rose};
+ghost use Rattle.flash_pages.specs.Board.{Rose, Told};
 ghost use Rattle.update_laws.specs.Update.{components_in};
 ghost use Rattle.drawn_releases.specs.Generator.{release_drawn};
-ghost use Rattle.rehearsal.specs.Lines.{TellsSet, Tells, IsCutLine, OnlySends, EndsRehearsal};
+ghost use Rattle.rehearsal.specs.Lines.{TellsSet, Tells, IsCutLine, OnlySends, EndsRehearsal, SendsLines};
 
 use crate::flash::flash_of;
 use crate::lines::{boot_line, send};
@@ -187,7 +187,7 @@ fn whole_step(alloc: Global, cut: Cut, next: u32) -> Result<Whole, Stop>
 /// a whole one. Behind each of the two a line is sent, `cut F H` and `boot R H`: the release that the mote started, and the digest of
 /// its program flash; at last `done 20`.
 ///
-/// F is R or the release before it, and H is the digest of what the set of that release is, linked from scratch, with 0xFF behind it. A line is
+/// F is R or the release before it, and H is the digest of what that release's set is, linked from scratch, with 0xFF behind it. A line is
 /// sent only where the mote said that it started that release, and its program flash holds just this.
 ///
 /// The status is 0 where all was sent, and 5 only where line faults rose. It is 1 where there was no memory. It would be 1 as well, and
@@ -195,6 +195,7 @@ fn whole_step(alloc: Global, cut: Cut, next: u32) -> Result<Whole, Stop>
 /// board.
 pub fn rehearse<B: Board>(alloc: Global, board: &mut B, number: u32) -> u8
     ensures only { OnlySends (B.view board.old) (B.view board.new) }
+    ensures lines { Told (B.view board.old) (λ s. SendsLines number result s (B.view board.new)) }
     ensures failed { result ≡ 5 → Rose (B.view board.old).line_faults (B.view board.new).line_faults }
     ensures no_fault { result ≢ 5 → (B.view board.new).line_faults ≡ (B.view board.old).line_faults }
     ensures ends { EndsRehearsal result }

@@ -27,7 +27,7 @@ pub fn mote_main<B: Board>(alloc: Global, words: &[Text], board: &mut B) -> u8
     ensures does { (c : Command) → words.now ≡ words_of c →
         Does c result (B.view board.old) (B.view board.new) }
     ensures rehearses { (number : ℕ) → number < 2 ^ 32 → words.now ≡ rehearse_words number →
-        DoesRehearsal result (B.view board.old) (B.view board.new) }
+        DoesRehearsal number result (B.view board.old) (B.view board.new) }
     ensures faults { TellsFaults result (B.view board.old) (B.view board.new) }
     ensures other { (result ≡ 64) ↔ IsNothing words.now }
     ensures nothing { IsNothing words.now → board.new ≡ board.old }

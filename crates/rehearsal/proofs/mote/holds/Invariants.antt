@@ -1,4 +1,4 @@
-use Rattle.std.proofs.Common.{◌≡◌, ◌<◌, ◌≤◌, ℕ, [], length, slice_index_or}
+use Rattle.std.proofs.Common.{◌≡◌, ◌<◌, ℕ, [], slice_index_or}
 use Rattle.flash_pages.specs.Memory.{memory_state}
 use Rattle.component_package.specs.link.Pages.{page_in}
 use Rattle.rehearsal.proofs.mote.holds.Given as goal

@@ -1,6 +1,7 @@
-use Rattle.std.proofs.Common.{arith, subst}
+use Rattle.std.proofs.Common.{arith, subst, sym, ℕ}
+use Rattle.rehearsal.specs.Lines.{SendsLines}
 use Rattle.rehearsal.specs.Words.{IsRehearsal}
-use Rattle.rehearsal.proofs.Tops.{two_words, not_other, tells_faults}
+use Rattle.rehearsal.proofs.Tops.{two_words, one_number, not_other, tells_faults}
 use Rattle.rehearsal.proofs.top.mote_main.Goals as goal
 
 pub returns-in-Some-clause-does : goal.returns-in-Some-clause-does
@@ -8,7 +9,13 @@ returns-in-Some-clause-does g c k one =
     absurd (two_words k c.args.words.now c.in-Some.number one (subst (IsRehearsal c.args.words.now) c.in-Some.is c.rehearsal_number.ensures))
 
 pub returns-in-Some-clause-rehearses : goal.returns-in-Some-clause-rehearses
-returns-in-Some-clause-rehearses g c number small two = record { only = c.rehearse.ensures.only; ends = c.rehearse.ensures.ends }
+returns-in-Some-clause-rehearses g c number small two =
+    let same = one_number number c.in-Some.number c.args.words.now small two (subst (IsRehearsal c.args.words.now) c.in-Some.is c.rehearsal_number.ensures) in
+    record {
+      only = c.rehearse.ensures.only;
+      lines = λ s told. subst (λ (n : ℕ). SendsLines n c.rehearse.result s (g.B.Board.view c.rehearse.new.board)) (sym same) (c.rehearse.ensures.lines s told);
+      ends = c.rehearse.ensures.ends;
+    }
 
 pub returns-in-Some-clause-faults : goal.returns-in-Some-clause-faults
 returns-in-Some-clause-faults g c = tells_faults _ _ _ c.rehearse.ensures.only c.rehearse.ensures.failed c.rehearse.ensures.no_fault c.rehearse.ensures.ends
