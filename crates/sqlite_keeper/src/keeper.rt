@@ -13,13 +13,16 @@ use std::alloc::Global;
 /// A keeper in a database file that SQLite reads. It tells no tables, and counts its faults.
 ///
 /// It opens the file at its first call, and makes it where it is missing. The file and the log beside it, whose name ends in `-wal`,
-/// belong together. A change is one transaction with full synchronisation: once `apply` has answered Ok, it outlives the process and a power
-/// cut. Each look-up goes by a key, so its time grows with the logarithm of how many rows there are. A count is the greatest number that
-/// is kept.
+/// belong together. A count is the greatest number that is kept.
+///
+/// No clause says what the file holds or when it reaches the disk. Tests show that a later keeper on the file finds what changes made,
+/// that a change whose key, symbol, version or release is taken leaves nothing, and that each damaged row they make is a fault. A change is
+/// meant to be one transaction with full synchronisation, so that it outlives the process and a power cut once `apply` has answered Ok.
+/// Each look-up is meant to go by a key, so that its time grows with the logarithm of how many rows there are.
 ///
 /// Want of memory that `sqlite` names is `RowsFault::Memory`. These are faults: each other call that `sqlite` refuses, tables of the
 /// same names in another form, a stored value outside its type's range, and a stored package or release that isn't one. After a
-/// failure of the disk the file is opened again at the next call.
+/// failure of the disk the file is meant to be opened again at the next call.
 #[derive(Drop)]
 pub struct SqliteKeeper<'a> {
     store: Store<'a>,

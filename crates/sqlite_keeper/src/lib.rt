@@ -1,6 +1,6 @@
 //! What keeps the rows of a release server in a database file that SQLite reads.
 //!
-//! A change is one transaction: it is in the file whole or not at all, and it is on the disk once `apply` has answered Ok.
+//! A change is meant to be one transaction: in the file whole or not at all, and on the disk once `apply` has answered Ok.
 #![tactic(auto)]
 
 mod checks;
