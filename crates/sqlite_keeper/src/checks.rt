@@ -8,7 +8,7 @@ use component_package::read_package;
 use release_rows::Numbered;
 
 /// Whether bytes are a package without a fault, of this component in this version.
-pub(crate) fn is_package_of(bytes: &[u8], component: u16, version: u16) -> bool
+pub fn is_package_of(bytes: &[u8], component: u16, version: u16) -> bool
     ensures { IsTrue result ↔ IsPackageOf component version bytes.now }
 {
     match read_package(bytes) {
@@ -28,7 +28,7 @@ fn has_component(parts: &[Numbered], component: u16) -> bool
 }
 
 /// Whether these are 1 to 16 different components.
-pub(crate) fn is_part_list(parts: &[Numbered]) -> bool
+pub fn is_part_list(parts: &[Numbered]) -> bool
     ensures { IsTrue result ↔ IsPartList parts.now }
 {
     if parts.is_empty() {

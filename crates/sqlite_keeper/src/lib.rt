@@ -10,7 +10,5 @@ mod schema;
 mod store;
 mod values;
 
+pub use checks::{is_package_of, is_part_list};
 pub use keeper::SqliteKeeper;
-
-#[cfg(test)]
-mod tests;

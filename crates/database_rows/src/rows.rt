@@ -1,14 +1,12 @@
 //! A keeper on files: what it answers before and after changes, over damaged rows, and over files that are none of its own.
 
-use crate::SqliteKeeper;
-use crate::checks::{is_package_of, is_part_list};
-use crate::database::{Database, close, open};
 use component_package::{Bytes, Text};
 use release_keeper::Keeper;
 use release_rows::{
     Change, Effect, KeyRow, Numbered, NumberedParts, Rows, RowsFault, SymbolRow, SymbolRows,
 };
-use sqlite::Error;
+use sqlite::{Connection, Error, FileFrom, FileStore, Wary};
+use sqlite_keeper::{SqliteKeeper, is_package_of, is_part_list};
 use std::alloc::{AllocError, Global};
 use std::test::Fail;
 use std::{fs, io};
@@ -860,6 +858,16 @@ const DAMAGED: [Row; 32] = [
     },
 ];
 
+// A connection to the file, as the keeper makes one.
+type Database = Connection<FileStore<FileFrom<Wary>>>;
+
+fn open(rt: &HostRuntime, path: &str) -> Result<Database, Error> {
+    match Connection::open_from(rt, path, false, Wary) {
+        Ok(database) => Ok(database),
+        Err((error, _left)) => Err(error),
+    }
+}
+
 fn batch(database: &mut Database, text: &str) -> Result<(), Error> {
     database.execute_batch(text)
 }
@@ -870,7 +878,7 @@ fn run_on_file(rt: &HostRuntime, path: &str, texts: &[&str]) -> Result<(), Error
     for text in texts {
         batch(&mut database, text)?;
     }
-    close(database)
+    database.close()
 }
 
 #[test]
