@@ -84,10 +84,15 @@ impl<'a> Update<'a> {
     pub(crate) fn read(bytes: &'a [u8]) -> Result<Update<'a>> {
         let mut manifest: &[u8] = &[];
         let mut package_bytes = 0usize;
-        let mut at = 0;
-        while at < bytes.len() {
-            let frame = Frame::first(&bytes[at..]).context("a frame is cut off")?;
-            let end = at + frame.length;
+        let mut at = 0usize;
+        // No frame is empty, so there are no more of them than bytes.
+        for _ in 0..bytes.len() {
+            let rest = bytes.get(at..).unwrap_or(&[]);
+            if rest.is_empty() {
+                break;
+            }
+            let frame = Frame::first(rest).context("a frame is cut off")?;
+            let end = at.saturating_add(frame.length);
             match frame.kind {
                 MANIFEST => manifest = frame.payload,
                 PIECE => {
@@ -97,9 +102,9 @@ impl<'a> Update<'a> {
                 }
                 LINK => {
                     return Ok(Update {
-                        before: &bytes[..at],
-                        link: &bytes[at..end],
-                        behind: &bytes[end..],
+                        before: bytes.get(..at).unwrap_or(&[]),
+                        link: bytes.get(at..end).unwrap_or(&[]),
+                        behind: bytes.get(end..).unwrap_or(&[]),
                         release: release_of(manifest).context("there is no manifest")?,
                         package_bytes,
                         set_pages: set_pages(manifest),
