@@ -23,3 +23,6 @@ pub fn updates_of_rows()
 pub fn worked_updates()
     ensures { WorkedUpdates }
 {}
+
+#[cfg(test)]
+mod tests;

@@ -11,3 +11,6 @@ mod version;
 
 pub use law::{kept_numbers_differ, refused_for_want};
 pub use version::judge_version;
+
+#[cfg(test)]
+mod tests;

@@ -4,15 +4,13 @@ use component_package::Bytes;
 use std::alloc::{AllocError, Global};
 
 #[derive(Clone, Copy)]
-pub enum Object {
+pub(crate) enum Object {
     /// A component that sends a count: it defines `send` and `count`, and calls `radio_put`.
     Sender,
     /// A component that defines `radio_put`.
     Radio,
     /// The first of them, cut inside its section table.
     Cut,
-    /// A component without code and without a symbol.
-    Bare,
 }
 
 // An object in brief: where its section headers begin and how many there are, what stands before them, and these; the last one has their names.
@@ -91,18 +89,11 @@ const RADIO: File = File {
     ],
 };
 
-const BARE: File = File {
-    start: 64,
-    count: 2,
-    content: &[b"\0.shstrtab\0\0"],
-    sections: &[
-        [0, 0, 0, 0, 0, 0, 0, 0, 0, 0],
-        [1, 3, 0, 0, 52, 11, 0, 0, 1, 0],
-    ],
-};
-
 fn push_word(out: &mut Vec<u8>, word: u32) -> Result<(), AllocError> {
-    out.extend_from_slice(&word.to_le_bytes())
+    for b in word.to_le_bytes() {
+        out.push(b)?;
+    }
+    Ok(())
 }
 
 // The header: relocatable, AVR, avr5, and where the section headers begin.
@@ -134,11 +125,10 @@ fn written(alloc: Global, file: &File) -> Result<Vec<u8>, AllocError> {
 }
 
 /// The bytes of an object file.
-pub fn object_file(alloc: Global, object: Object) -> Result<Bytes, AllocError> {
+pub(crate) fn object_file(alloc: Global, object: Object) -> Result<Bytes, AllocError> {
     let mut bytes = match object {
         Object::Sender | Object::Cut => written(alloc, &SENDER)?,
         Object::Radio => written(alloc, &RADIO)?,
-        Object::Bare => written(alloc, &BARE)?,
     };
     if matches!(object, Object::Cut) {
         bytes.truncate(500);

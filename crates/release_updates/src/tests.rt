@@ -3,11 +3,11 @@
 ghost use Rattle.std.specs.Prelude.{◌≡◌, true};
 ghost use Rattle.release_rows.specs.Change.{IsPackageOf};
 
+use crate::update_frames;
 use component_package::{Bytes, read_package};
 use release_judging::{Judged, judge_release, text_of};
 use release_keeper::{Keeper, MemoryKeeper};
 use release_rows::{Change, Effect, KeyRow, Part, RowsFault, SymbolRows};
-use release_updates::update_frames;
 use std::alloc::{AllocError, Global};
 use std::test::Fail;
 
@@ -56,13 +56,8 @@ fn push_number(into: &mut Vec<u8>, number: usize) -> Result<(), AllocError> {
     Ok(())
 }
 
-/// A package of a component, with so many bytes in all: a code of zeros alone.
-pub fn package(
-    alloc: Global,
-    component: u16,
-    version: u16,
-    length: u16,
-) -> Result<Bytes, AllocError> {
+// A package of a component, with so many bytes in all: a code of zeros alone.
+fn package(alloc: Global, component: u16, version: u16, length: u16) -> Result<Bytes, AllocError> {
     let mut bytes = Vec::from_array(alloc, [0x46, 0x43, 0x50, 0x31])?;
     let code = length.saturating_sub(32);
     for number in [component, version, code, 0, 0, 0, 0] {
@@ -103,8 +98,7 @@ fn name(component: u16) -> &'static str {
         .unwrap_or("a")
 }
 
-/// Whether the bytes are a package of this component and version.
-pub fn is_package_of(component: u16, version: u16, bytes: &[u8]) -> bool
+fn is_package_of(component: u16, version: u16, bytes: &[u8]) -> bool
     ensures { result ≡ true → IsPackageOf component version bytes.now }
 {
     let Ok(view) = read_package(bytes) else {

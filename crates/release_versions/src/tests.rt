@@ -3,13 +3,113 @@
 ghost use Rattle.std.specs.Prelude.{None};
 ghost use Rattle.release_judging.specs.Judging.{IsSoundly};
 
-use crate::objects::{Object, object_file};
+use super::judge_version;
 use component_package::{Bytes, Text};
 use release_judging::{Judged, text_of};
 use release_keeper::{Keeper, MemoryKeeper};
 use release_rows::{Change, Effect, KeyRow, NumberedParts, Rows, RowsFault};
-use release_versions::judge_version;
 use std::alloc::{AllocError, Global};
+use std::process::Abort;
+use std::test::Fail;
+
+/// The file header, but for the sixteen bytes of the identification: relocatable, AVR, version 1, no
+/// entry, no program headers, section headers at 442, avr5, sizes, thirteen sections, names in the last.
+const FILE_HEADER: [u8; 36] = [
+    1, 0, 83, 0, 1, 0, 0, 0, 0, 0, 0, 0, 0, 0, 0, 0, 186, 1, 0, 0, 0x85, 0, 0, 0, 52, 0, 0, 0, 0,
+    0, 40, 0, 13, 0, 12, 0,
+];
+
+/// The section headers: name, type, flags, address, offset, size, link, info, alignment, entry size.
+const SECTIONS: [[u32; 10]; 13] = [
+    [0, 0, 0, 0, 0, 0, 0, 0, 0, 0],
+    [1, 1, 6, 0, 52, 0, 0, 0, 1, 0],
+    [7, 1, 3, 0, 52, 3, 0, 0, 1, 0],
+    [13, 8, 3, 0, 55, 2, 0, 0, 1, 0],
+    [18, 1, 6, 0, 55, 12, 0, 0, 1, 0],
+    [29, 4, 0x40, 0, 67, 48, 10, 4, 4, 12],
+    [45, 1, 2, 0, 115, 5, 0, 0, 1, 0],
+    [59, 1, 2, 0, 120, 4, 0, 0, 1, 0],
+    [67, 1, 0, 0, 124, 4, 0, 0, 1, 0],
+    [79, 4, 0x40, 0, 128, 12, 10, 8, 4, 12],
+    [96, 2, 0, 0, 140, 128, 11, 3, 4, 16],
+    [104, 3, 0, 0, 268, 52, 0, 0, 1, 0],
+    [112, 3, 0, 0, 320, 122, 0, 0, 1, 0],
+];
+
+/// Symbols: name, value, size, binding and type, section.
+const SYMBOLS: [[u32; 5]; 8] = [
+    [0, 0, 0, 0, 0],
+    [0, 0, 0, 0x03, 7],
+    [0, 0, 0, 0x03, 4],
+    [1, 0, 12, 0x12, 4],
+    [6, 0, 2, 0x11, 3],
+    [12, 0, 0, 0x10, 0],
+    [22, 0, 0, 0x10, 0],
+    [37, 0, 0, 0x10, 0],
+];
+
+/// Relocations of `.text.send`, then of `.debug_info`: offset, type, symbol, addend.
+const RELAS: [[u32; 4]; 5] = [
+    [0, 6, 1, 1],
+    [2, 7, 1, 1],
+    [4, 18, 5, 0],
+    [8, 3, 2, 0],
+    [0, 4, 2, 0xFFFF_FFFF],
+];
+
+const SEND: [u8; 12] = [
+    0x80, 0xE0, 0x90, 0xE0, 0x0E, 0x94, 0, 0, 0, 0xC0, 0x08, 0x95,
+];
+
+fn push_u32(out: &mut Vec<u8>, n: u32) -> Result<(), AllocError> {
+    for b in n.to_le_bytes() {
+        out.push(b)?;
+    }
+    Ok(())
+}
+
+fn push_relas(out: &mut Vec<u8>, relas: &[[u32; 4]]) -> Result<(), AllocError> {
+    for [offset, kind, symbol, addend] in relas {
+        push_u32(out, *offset)?;
+        push_u32(out, symbol.wrapping_mul(256) | *kind)?;
+        push_u32(out, *addend)?;
+    }
+    Ok(())
+}
+
+fn push_symbols(out: &mut Vec<u8>) -> Result<(), AllocError> {
+    for [name, value, size, info, section] in SYMBOLS {
+        push_u32(out, name)?;
+        push_u32(out, value)?;
+        push_u32(out, size)?;
+        push_u32(out, info | section.wrapping_mul(65536))?;
+    }
+    Ok(())
+}
+
+/// The object: a component that sends a count, as a compiler would write it.
+fn sender(alloc: Global) -> Result<Vec<u8>, AllocError> {
+    let mut out = Vec::new(alloc);
+    out.extend_from_slice(b"\x7FELF\x01\x01\x01\0\0\0\0\0\0\0\0\0")?;
+    out.extend_from_slice(&FILE_HEADER)?;
+    out.extend_from_slice(b"\x0A\x0B\x0C")?;
+    out.extend_from_slice(&SEND)?;
+    push_relas(&mut out, &RELAS[..4])?;
+    out.extend_from_slice(b"\x01\x02\x03\x04\x05abc\0\0\0\0\0")?;
+    push_relas(&mut out, &RELAS[4..])?;
+    push_symbols(&mut out)?;
+    out.extend_from_slice(b"\0send\0count\0radio_put\0__do_copy_data\0__do_clear_bss\0")?;
+    out.extend_from_slice(b"\0.text\0.data\0.bss\0.text.send\0.rela.text.send\0.progmem.data\0")?;
+    out.extend_from_slice(
+        b".rodata\0.debug_info\0.rela.debug_info\0.symtab\0.strtab\0.shstrtab\0",
+    )?;
+    for fields in SECTIONS {
+        for n in fields {
+            push_u32(&mut out, n)?;
+        }
+    }
+    Ok(out)
+}
 
 /// The package of the sender as component 1 in version 1, where its names have numbers 16, 17 and 18.
 const PACKAGE: [u8; 102] = [
@@ -17,6 +117,34 @@ const PACKAGE: [u8; 102] = [
     0, 0, 0, 0, 0, 0x80, 0xE0, 0x90, 0xE0, 0x0E, 0x94, 0, 0, 0, 0xC0, 0x08, 0x95, 1, 2, 3, 4, 5, 0,
     0x0A, 0x0B, 0x0C, 0, 0x61, 0x62, 0x63, 0, 16, 0, 0, 0, 0, 0, 17, 0, 2, 0, 0, 0, 0, 0, 0, 6, 1,
     0, 5, 0, 2, 0, 0, 7, 1, 0, 5, 0, 4, 0, 0, 18, 18, 0, 0, 0, 8, 0, 0, 3, 0, 0, 0, 0,
+];
+
+/// An object whose `.text` is `radio_put`, which it exports.
+fn radio(alloc: Global) -> Result<Vec<u8>, AllocError> {
+    let mut out = Vec::new(alloc);
+    out.extend_from_slice(b"\x7FELF\x01\x01\x01\0\0\0\0\0\0\0\0\0")?;
+    out.extend_from_slice(&[1, 0, 83, 0, 1, 0, 0, 0, 0, 0, 0, 0, 0, 0, 0, 0])?;
+    out.extend_from_slice(&[130, 0, 0, 0, 0x85, 0, 0, 0, 52, 0, 0, 0])?;
+    out.extend_from_slice(&[0, 0, 40, 0, 5, 0, 4, 0, 0x08, 0x95])?;
+    out.extend_from_slice(&[0; 16])?;
+    out.extend_from_slice(&[1, 0, 0, 0, 0, 0, 0, 0, 2, 0, 0, 0, 0x12, 0, 1, 0])?;
+    out.extend_from_slice(b"\0radio_put\0")?;
+    out.extend_from_slice(b"\0.text\0.symtab\0.strtab\0.shstrtab\0")?;
+    for fields in RADIO_SECTIONS {
+        for n in fields {
+            push_u32(&mut out, n)?;
+        }
+    }
+    Ok(out)
+}
+
+/// The section headers of the radio's object.
+const RADIO_SECTIONS: [[u32; 10]; 5] = [
+    [0, 0, 0, 0, 0, 0, 0, 0, 0, 0],
+    [1, 1, 6, 0, 52, 2, 0, 0, 1, 0],
+    [7, 2, 0, 0, 54, 32, 3, 1, 4, 16],
+    [15, 3, 0, 0, 86, 11, 0, 0, 1, 0],
+    [23, 3, 0, 0, 97, 33, 0, 0, 1, 0],
 ];
 
 /// What is said of an object, as numbers: of a refusal its number and its values; of a version 0, the component, the version and the
@@ -122,9 +250,7 @@ const EMPTY: Answers = Answers {
 };
 
 /// Answers of rows, and what is said of the sender where they answer so.
-type Case = (Answers, &'static [i64]);
-
-const CASES: [Case; 20] = [
+const CASES: [(Answers, &[i64]); 20] = [
     (EMPTY, &[0, 1, 1, 16, 17, 18]),
     // Room for components, then for versions, then for symbols.
     (
@@ -279,150 +405,28 @@ const CASES: [Case; 20] = [
     ),
 ];
 
-// Whether this is said of an object where rows answer so.
-fn is_said(
+fn check_case(
+    rt: &impl Abort,
     alloc: Global,
     object: &[u8],
     answers: Answers,
     wanted: &[i64],
-) -> Result<bool, RowsFault> {
-    if 262_144 < object.len() {
-        return Ok(false);
-    }
+) -> Result<(), Fail> {
+    assert!(rt; object.len() <= 262_144);
     let mut rows = answers;
-    let judged = judge_version(alloc, &mut rows, "sender", object)?;
+    let judged = judge_version(alloc, &mut rows, "sender", object).map_err(|_| "a fault")?;
     let numbers = numbers_of(alloc, &judged)?;
-    Ok(numbers.as_slice() == wanted)
-}
-
-// The first of these answers of rows where something else is said of the sender.
-fn first_wrong(alloc: Global, cases: &[Case]) -> Result<Option<usize>, RowsFault> {
-    let object = object_file(alloc, Object::Sender)?;
-    for (i, (answers, wanted)) in cases.iter().enumerate() {
-        if !is_said(alloc, object.as_slice(), *answers, wanted)? {
-            return Ok(Some(i));
-        }
-    }
-    Ok(None)
+    assert_eq!(rt; numbers.as_slice(), wanted);
+    Ok(())
 }
 
 #[test]
-fn gives_numbers_where_there_is_room(rt: HostRuntime) {
-    assert_eq!(rt; first_wrong(rt.alloc(), &CASES), Ok(None));
-}
-
-/// Where bytes of the sender are written over, the bytes, and the refusal with its values. Its symbols begin at byte 140 and have 16 bytes,
-/// its section headers at byte 442 and have 40.
-type Refusal = (usize, &'static [u8], &'static [i64]);
-
-const REFUSED: [Refusal; 32] = [
-    // No file of its kind: the identification, the machine, the architecture, the type.
-    (0, &[0x7E], &[102, 0]),
-    (4, &[2], &[102, 4]),
-    (6, &[0], &[102, 6]),
-    (18, &[82], &[103, 18]),
-    (36, &[6], &[103, 36]),
-    (16, &[2], &[104, 16]),
-    // Sections: their headers' size, how many there are, where they are, the one of names, and the bytes of one.
-    (46, &[41], &[105, 46]),
-    (48, &[0], &[105, 48]),
-    (48, &[14], &[105, 32]),
-    (50, &[13], &[105, 50]),
-    (618, &[255; 4], &[105, 602]),
-    (566, &[17], &[110, 562, 17]),
-    (606, &[7, 0, 0, 0], &[110, 602, 7]),
-    // Names, symbols and relocations.
-    (50, &[4], &[106, 602]),
-    (762, &[122, 0, 0, 0], &[106, 762]),
-    (866, &[13, 0, 0, 0], &[106, 842]),
-    (766, &[2, 0, 0, 0], &[107, 842]),
-    (862, &[0; 4], &[107, 842]),
-    (188, &[52, 0, 0, 0], &[107, 188]),
-    (670, &[13, 0, 0, 0], &[108, 642]),
-    (67, &[12], &[108, 67]),
-    (72, &[8], &[109, 67]),
-    // An object that can't be packed: an alignment, a common symbol, a type, an addend, a field, and an overlap.
-    (634, &[4], &[201, 4]),
-    (202, &[0xF2, 0xFF], &[202, 3]),
-    (71, &[33], &[203, 4, 0, 33]),
-    (75, &[0xFC, 0x7F], &[204, 4, 0]),
-    (67, &[11], &[205, 4, 0]),
-    (79, &[0], &[205, 4, 1]),
-    // A size, a number that is too large, and one name for two symbols.
-    (582, &[0xFF, 0xFF], &[206, 65_536]),
-    (210, b"\x01\0\x02\0\0\0\x11\0\xF1\xFF", &[207, 4]),
-    (204, &[1], &[208, 4]),
-    // The first of two.
-    (0, b"\0ELF\x02", &[102, 0]),
-];
-
-// The bytes with others written over them.
-fn written_over(
-    alloc: Global,
-    file: &[u8],
-    at: usize,
-    bytes: &[u8],
-) -> Result<Vec<u8>, AllocError> {
-    let mut out = file.to_vec(alloc)?;
-    if let Some(tail) = out.as_mut_slice().get_mut(at..) {
-        for (place, byte) in tail.iter_mut().zip(bytes) {
-            *place = *byte;
-        }
+fn gives_numbers_where_there_is_room(rt: HostRuntime) -> Result<(), Fail> {
+    let object = sender(rt.alloc())?;
+    for (answers, wanted) in CASES {
+        check_case(&rt, rt.alloc(), &object, answers, wanted)?;
     }
-    Ok(out)
-}
-
-// Whether the sender with these bytes written over its own is refused so.
-fn is_refused(alloc: Global, file: &[u8], refusal: Refusal) -> Result<bool, RowsFault> {
-    let (at, bytes, wanted) = refusal;
-    let bad = written_over(alloc, file, at, bytes)?;
-    is_said(alloc, &bad, EMPTY, wanted)
-}
-
-// The first of these that isn't refused so.
-fn first_taken(alloc: Global, refusals: &[Refusal]) -> Result<Option<usize>, RowsFault> {
-    let object = object_file(alloc, Object::Sender)?;
-    for (i, refusal) in refusals.iter().enumerate() {
-        if !is_refused(alloc, object.as_slice(), *refusal)? {
-            return Ok(Some(i));
-        }
-    }
-    Ok(None)
-}
-
-#[test]
-fn refuses_hostile_objects(rt: HostRuntime) {
-    assert_eq!(rt; first_taken(rt.alloc(), &REFUSED), Ok(None));
-}
-
-/// How many of the sender's 962 bytes are there, and the refusal.
-type Cut = (usize, &'static [i64]);
-
-const CUT: [Cut; 6] = [
-    (0, &[101, 0]),
-    (51, &[101, 51]),
-    (52, &[105, 32]),
-    (442, &[105, 32]),
-    (900, &[105, 32]),
-    (961, &[105, 32]),
-];
-
-// The first of these lengths at which something else is said.
-fn first_uncut(alloc: Global, cuts: &[Cut]) -> Result<Option<usize>, RowsFault> {
-    let object = object_file(alloc, Object::Sender)?;
-    for (i, (length, wanted)) in cuts.iter().enumerate() {
-        let mut short = object.as_slice().to_vec(alloc)?;
-        short.truncate(*length);
-        if !is_said(alloc, &short, EMPTY, wanted)? {
-            return Ok(Some(i));
-        }
-    }
-    Ok(None)
-}
-
-#[test]
-fn refuses_cut_objects(rt: HostRuntime) {
-    assert_eq!(rt; first_uncut(rt.alloc(), &CUT), Ok(None));
+    Ok(())
 }
 
 /// The package of the radio as component 2 in version 1, where its name has number 18.
@@ -431,94 +435,73 @@ const RADIO_PACKAGE: [u8; 40] = [
     0, 0, 0, 0, 0x08, 0x95, 18, 0, 0, 0, 0, 0,
 ];
 
-/// An object that is kept under a name and a key, what is said of it, and its package.
-type Kept = (
-    Object,
-    &'static str,
-    &'static str,
-    &'static [i64],
-    &'static [u8],
-);
-
-/// The package of the sender as version 2.
-const SECOND: [u8; 102] = [
-    0x46, 0x43, 0x50, 0x31, 1, 0, 2, 0, 18, 0, 8, 0, 2, 0, 2, 0, 4, 0, 0, 0, 0, 0, 0, 0, 0, 0, 0,
-    0, 0, 0, 0, 0, 0x80, 0xE0, 0x90, 0xE0, 0x0E, 0x94, 0, 0, 0, 0xC0, 0x08, 0x95, 1, 2, 3, 4, 5, 0,
-    0x0A, 0x0B, 0x0C, 0, 0x61, 0x62, 0x63, 0, 16, 0, 0, 0, 0, 0, 17, 0, 2, 0, 0, 0, 0, 0, 0, 6, 1,
-    0, 5, 0, 2, 0, 0, 7, 1, 0, 5, 0, 4, 0, 0, 18, 18, 0, 0, 0, 8, 0, 0, 3, 0, 0, 0, 0,
-];
-
-const KEPT: [Kept; 3] = [
-    (
-        Object::Sender,
-        "sender",
-        "1",
-        &[0, 1, 1, 16, 17, 18],
-        &PACKAGE,
-    ),
-    (Object::Sender, "sender", "2", &[0, 1, 2], &SECOND),
-    (Object::Radio, "radio", "3", &[0, 2, 1], &RADIO_PACKAGE),
-];
-
-fn key_of(alloc: Global, key: &str) -> Result<KeyRow, AllocError> {
-    Ok(KeyRow {
-        key: text_of(alloc, key)?,
-        digest: [0; 32],
-        body: text_of(alloc, "")?,
-    })
-}
-
-fn has_package(judged: &Judged, wanted: &[u8]) -> bool {
-    match judged {
-        Judged::Does(Effect::Version { package, .. }) => package.as_slice() == wanted,
-        _ => false,
-    }
-}
-
-// Makes the version that was judged, under a key.
-fn make(
-    alloc: Global,
-    rows: &mut MemoryKeeper,
-    judged: Judged,
-    key: &str,
-) -> Result<bool, RowsFault>
+// Makes the version that was judged, under a key; answers its package.
+fn make(alloc: Global, rows: &mut MemoryKeeper, judged: Judged, key: &str) -> Result<Vec<u8>, Fail>
     requires { IsSoundly judged }
 {
     let Judged::Does(effect) = judged else {
-        return Ok(false);
+        return Err("nothing is done".into());
     };
-    let key = key_of(alloc, key)?;
-    rows.apply(&Change { effect, key })?;
-    Ok(true)
+    let Effect::Version { package, .. } = &effect else {
+        return Err("no version".into());
+    };
+    let package = package.as_slice().to_vec(alloc)?;
+    let key = KeyRow {
+        key: text_of(alloc, key)?,
+        digest: [0; 32],
+        body: text_of(alloc, "")?,
+    };
+    rows.apply(&Change { effect, key })
+        .map_err(|_| "the change failed")?;
+    Ok(package)
 }
 
-// Keeps an object; whether what was said of it and its package are the wanted ones.
-fn keep(alloc: Global, rows: &mut MemoryKeeper, row: Kept) -> Result<bool, RowsFault> {
-    let (which, name, key, wanted, package) = row;
-    let object = object_file(alloc, which)?;
-    if 262_144 < object.as_slice().len() {
-        return Ok(false);
-    }
-    let judged = judge_version(alloc, rows, name, object.as_slice())?;
+// Keeps an object under a name and a key, as the numbers that are wanted; answers its package.
+fn keep(
+    rt: &impl Abort,
+    alloc: Global,
+    rows: &mut MemoryKeeper,
+    name: &str,
+    key: &str,
+    object: &[u8],
+    wanted: &[i64],
+) -> Result<Vec<u8>, Fail> {
+    assert!(rt; object.len() <= 262_144);
+    let judged = match judge_version(alloc, rows, name, object) {
+        Ok(judged) => judged,
+        Err(_) => return Err("a fault".into()),
+    };
     let numbers = numbers_of(alloc, &judged)?;
-    if numbers.as_slice() != wanted || !has_package(&judged, package) {
-        return Ok(false);
-    }
+    assert_eq!(rt; numbers.as_slice(), wanted);
     make(alloc, rows, judged, key)
 }
 
-// The first of these objects, kept one after the other, of which something else is said.
-fn first_lost(alloc: Global, rows: &[Kept]) -> Result<Option<usize>, RowsFault> {
-    let mut keeper = MemoryKeeper::new(alloc, Vec::new(alloc));
-    for (i, row) in rows.iter().enumerate() {
-        if !keep(alloc, &mut keeper, *row)? {
-            return Ok(Some(i));
-        }
-    }
-    Ok(None)
-}
-
 #[test]
-fn keeps_versions(rt: HostRuntime) {
-    assert_eq!(rt; first_lost(rt.alloc(), &KEPT), Ok(None));
+fn keeps_versions(rt: HostRuntime) -> Result<(), Fail> {
+    let mut rows = MemoryKeeper::new(rt.alloc(), Vec::new(rt.alloc()));
+    let object = sender(rt.alloc())?;
+    let package = keep(
+        &rt,
+        rt.alloc(),
+        &mut rows,
+        "sender",
+        "1",
+        &object,
+        &[0, 1, 1, 16, 17, 18],
+    )?;
+    assert_eq!(rt; package.as_slice(), PACKAGE.as_slice());
+    let again = keep(
+        &rt,
+        rt.alloc(),
+        &mut rows,
+        "sender",
+        "2",
+        &object,
+        &[0, 1, 2],
+    )?;
+    assert_eq!(rt; again.len(), 102);
+    let other = radio(rt.alloc())?;
+    let package = keep(&rt, rt.alloc(), &mut rows, "radio", "3", &other, &[0, 2, 1])?;
+    assert_eq!(rt; package.as_slice(), RADIO_PACKAGE.as_slice());
+    Ok(())
 }

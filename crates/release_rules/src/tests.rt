@@ -4,11 +4,11 @@ ghost use Rattle.std.specs.Prelude.{◌≡◌, ◌≤◌, true};
 ghost use Rattle.release_rules.specs.Deciding.{IsAllowed, IsSafely};
 
 use crate::objects::{Object, object_file};
+use crate::{Decision, decide, mote_body};
 use component_package::Text;
 use http_bodies::refusal_body;
 use release_keeper::{Keeper, MemoryKeeper};
 use release_rows::{Command, Part, Parts, RowsFault};
-use release_rules::{Decision, decide, mote_body};
 use std::alloc::{AllocError, Global};
 
 #[derive(Clone, Copy)]
@@ -304,144 +304,24 @@ fn each_fails(alloc: Global, rows: &[Row]) -> Result<bool, RowsFault> {
     Ok(failures(alloc, rows, CALLS + 1)? == Some(0))
 }
 
-// The first of these questions in a row that has another answer.
-fn first_wrong(
-    alloc: Global,
-    keeper: &mut MemoryKeeper,
-    rows: &[Row],
-) -> Result<Option<usize>, RowsFault> {
+// The place of the first question that has another answer, or how many there are.
+fn wrong_place(alloc: Global, rows: &[Row]) -> Result<usize, RowsFault> {
+    let mut keeper = MemoryKeeper::new(alloc, Vec::new(alloc));
     for (place, row) in rows.iter().enumerate() {
-        let answer = ask(alloc, keeper, row)?;
+        let answer = ask(alloc, &mut keeper, row)?;
         if answer.as_str() != row.answer {
-            return Ok(Some(place));
+            return Ok(place);
         }
     }
-    Ok(None)
-}
-
-fn first_wrong_of(alloc: Global, rows: &[Row]) -> Result<Option<usize>, RowsFault> {
-    let mut keeper = MemoryKeeper::new(alloc, Vec::new(alloc));
-    first_wrong(alloc, &mut keeper, rows)
+    Ok(rows.len())
 }
 
 #[test]
 fn questions_have_their_answers(rt: HostRuntime) {
-    assert_eq!(rt; first_wrong_of(rt.alloc(), &ROWS), Ok(None));
+    assert_eq!(rt; wrong_place(rt.alloc(), &ROWS), Ok(22));
 }
 
 #[test]
 fn each_call_fails_once(rt: HostRuntime) {
     assert_eq!(rt; each_fails(rt.alloc(), &ROWS), Ok(true));
-}
-
-const SIXTEEN: [(&str, u16); 16] = [
-    ("c1", 1),
-    ("c2", 1),
-    ("c3", 1),
-    ("c4", 1),
-    ("c5", 1),
-    ("c6", 1),
-    ("c7", 1),
-    ("c8", 1),
-    ("c9", 1),
-    ("c10", 1),
-    ("c11", 1),
-    ("c12", 1),
-    ("c13", 1),
-    ("c14", 1),
-    ("c15", 1),
-    ("c16", 1),
-];
-
-const SEVENTEEN: [(&str, u16); 17] = [
-    ("c1", 1),
-    ("c2", 1),
-    ("c3", 1),
-    ("c4", 1),
-    ("c5", 1),
-    ("c6", 1),
-    ("c7", 1),
-    ("c8", 1),
-    ("c9", 1),
-    ("c10", 1),
-    ("c11", 1),
-    ("c12", 1),
-    ("c13", 1),
-    ("c14", 1),
-    ("c15", 1),
-    ("c16", 1),
-    ("c17", 1),
-];
-
-// Releases of 17 parts, of none, and of 16, over 17 components.
-const GREATEST: [Row; 5] = [
-    Row {
-        key: "17",
-        digest: 1,
-        question: Question::Release("m1", &SEVENTEEN),
-        answer: "not allowed",
-    },
-    Row {
-        key: "0",
-        digest: 1,
-        question: Question::Release("m1", &[]),
-        answer: "not allowed",
-    },
-    Row {
-        key: "16",
-        digest: 1,
-        question: Question::Release("m1", &SIXTEEN),
-        answer: "201 {\"mote\":\"m1\",\"release\":1}",
-    },
-    Row {
-        key: "16 again",
-        digest: 1,
-        question: Question::Release("m1", &SIXTEEN),
-        answer: "201 {\"mote\":\"m1\",\"release\":2}",
-    },
-    Row {
-        key: "",
-        digest: 0,
-        question: Question::Mote("m1"),
-        answer: "200 {\"acknowledged\":0,\"components\":[[\"c1\",1],[\"c2\",1],[\"c3\",1],[\"c4\",1],[\"c5\",1],[\"c6\",1],[\"c7\",1],[\"c8\",1],[\"c9\",1],[\"c10\",1],[\"c11\",1],[\"c12\",1],[\"c13\",1],[\"c14\",1],[\"c15\",1],[\"c16\",1]],\"mote\":\"m1\",\"release\":2}",
-    },
-];
-
-// Keeps an object without code as the first version of a component; whether it was accepted.
-fn keep_bare(
-    alloc: Global,
-    keeper: &mut MemoryKeeper,
-    name: &'static str,
-) -> Result<bool, RowsFault> {
-    let row = Row {
-        key: name,
-        digest: 1,
-        question: Question::Version(name, Object::Bare),
-        answer: "201",
-    };
-    let answer = ask(alloc, keeper, &row)?;
-    Ok(answer.as_str().starts_with(row.answer))
-}
-
-// The first question that has another answer, once each of these components has a version; how many there are where one has none.
-fn first_wrong_over(
-    alloc: Global,
-    components: &[(&'static str, u16)],
-    rows: &[Row],
-) -> Result<Option<usize>, RowsFault> {
-    let mut keeper = MemoryKeeper::new(alloc, Vec::new(alloc));
-    for (name, _) in components {
-        if !keep_bare(alloc, &mut keeper, name)? {
-            return Ok(Some(rows.len()));
-        }
-    }
-    first_wrong(alloc, &mut keeper, rows)
-}
-
-#[test]
-fn a_release_has_16_parts_at_most(rt: HostRuntime) {
-    assert_eq!(rt;
-        first_wrong_over(rt.alloc(), &SEVENTEEN, &GREATEST),
-        Ok(None)
-    );
 }
