@@ -15,8 +15,8 @@ use std::alloc::Global;
 /// It opens the file at its first call, and makes it where it is missing. The file and the log beside it, whose name ends in `-wal`,
 /// belong together. A count is the greatest number that is kept.
 ///
-/// No clause says what the file holds or when it reaches the disk. Tests show that a later keeper on the file finds what changes made,
-/// that a change whose key, symbol, version or release is taken leaves nothing, and that each damaged row they make is a fault. A change is
+/// No clause says what the file holds or when it reaches the disk. Runs of the release server show that a later keeper on the file finds what
+/// changes made, also where the process was killed. A change is
 /// meant to be one transaction with full synchronisation, so that it outlives the process and a power cut once `apply` has answered Ok.
 /// Each look-up is meant to go by a key, so that its time grows with the logarithm of how many rows there are.
 ///
