@@ -21,8 +21,6 @@ mod relocation;
 mod sections;
 mod symbol;
 mod tables;
-#[cfg(test)]
-mod tests;
 mod view;
 
 pub use fault::ElfFault;
