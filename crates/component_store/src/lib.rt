@@ -22,8 +22,3 @@ pub use piece::{piece_differs, put_piece};
 pub use reader::SlotReader;
 pub use set::{SetFault, StoreFault, StoredSet};
 pub use slots::{is_held, is_same_entry, slot_for};
-
-#[cfg(test)]
-mod board_tests;
-#[cfg(test)]
-mod tests;

@@ -11,6 +11,3 @@ mod plain;
 mod staging;
 
 pub use staging::{page_of, stage};
-
-#[cfg(test)]
-mod tests;

@@ -17,6 +17,3 @@ pub use building::build;
 pub use check::{check_relocs, count_relocs};
 pub use fault::BuildFault;
 pub use list::{ListReader, entry_at, first_at, read_entry};
-
-#[cfg(test)]
-mod tests;

@@ -19,6 +19,3 @@ pub use fault::MergeFault;
 pub use merging::merge;
 pub use planning::plan_of_set;
 pub use table::{SymbolReader, address_of, read_address};
-
-#[cfg(test)]
-mod tests;

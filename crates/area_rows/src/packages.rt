@@ -1,14 +1,18 @@
 //! Each call of the board failing once, a stop at each program, and what is read of a package whose records lie over ends of pages.
 
-ghost use Rattle.std.specs.Prelude.{◌≡◌, IfSome};
+ghost use Rattle.std.specs.Prelude.{◌≡◌};
 ghost use Rattle.component_package.specs.packages.Manifest.{IsSlotManifest};
 ghost use Rattle.component_store.specs.Sets.{IsSet, length_of_part};
 
-use super::*;
-use crate::tests::{CALLER, nothing, over, push_entry};
+use crate::boards::{empty_board, failing, found, release, spoilt, stopping};
+use crate::parts::{CALLER, push_entry, push_number};
 use avr_reloc::RelocType;
 use component_package::{Export, Header, Place, Reloc, SlotManifest};
-use flash_pages::{Board, BoardPlan, Failed, MemoryBoard};
+use component_store::{
+    SetFault, SlotReader, StoreFault, StoredSet, check, check_package, export_at, exports_at,
+    open_set, part_bytes, piece_differs, put_piece, read_reloc, reloc_at,
+};
+use flash_pages::{Board, Failed, MemoryBoard};
 use sha2::{Digest, Sha256};
 use std::alloc::{AllocError, Global};
 use std::test::Fail;
@@ -58,18 +62,18 @@ fn push_export(into: &mut Vec<u8>, export: &Export) -> Result<(), AllocError> {
         Place::Absolute => 3,
     };
     let weak = if export.weak { 128 } else { 0 };
-    into.extend_from_slice(&export.symbol.to_le_bytes())?;
+    push_number(into, export.symbol)?;
     into.extend_from_slice(&[place + weak, 0])?;
-    into.extend_from_slice(&export.value.to_le_bytes())?;
+    push_number(into, export.value)?;
     Ok(())
 }
 
 fn push_reloc(into: &mut Vec<u8>, reloc: &Reloc) -> Result<(), AllocError> {
     let part = if reloc.in_init { 1 } else { 0 };
     let weak = if reloc.weak { 128 } else { 0 };
-    into.extend_from_slice(&reloc.offset.to_le_bytes())?;
+    push_number(into, reloc.offset)?;
     into.extend_from_slice(&[part + weak, 1])?;
-    into.extend_from_slice(&reloc.target.to_le_bytes())?;
+    push_number(into, reloc.target)?;
     into.extend_from_slice(&reloc.addend.to_le_bytes())?;
     Ok(())
 }
@@ -102,42 +106,6 @@ fn manifest(alloc: Global, long: &[u8]) -> Result<Vec<u8>, AllocError> {
     Ok(bytes)
 }
 
-fn release(bytes: &[u8]) -> Option<SlotManifest>
-    ensures { IfSome result IsSlotManifest }
-{
-    let Some(current) = nothing() else {
-        return None;
-    };
-    over(&current, bytes)
-}
-
-// What the page of the program holds in which the power is cut.
-fn spoilt(fill: u8) -> [u8; 256] {
-    match fill {
-        0 => [0xA5; 256],
-        1 => [0; 256],
-        _ => {
-            let mut page = [0; 256];
-            for at in 0..256usize {
-                page[at] = (255 - at) as u8;
-            }
-            page
-        }
-    }
-}
-
-// This call fails, and the power is cut in this program; neither where they are 0.
-fn plan(alloc: Global, fails: u32, stop_at: u32, fill: u8) -> Result<BoardPlan, Fail> {
-    let mut fail = Vec::new(alloc);
-    fail.push(fails)?;
-    Ok(BoardPlan {
-        fail,
-        stop_at,
-        spoil: spoilt(fill),
-        chunk: 1,
-    })
-}
-
 // A page of component 3's package into slot 1, where it holds other bytes.
 fn put_page<B: Board>(board: &mut B, page: u8, long: &[u8]) -> Result<(), StoreFault> {
     let start = 256 * page as usize;
@@ -160,12 +128,12 @@ fn put_pages<B: Board>(board: &mut B, long: &[u8]) -> Result<(), StoreFault> {
 
 // A board with the caller in slot 0.
 fn with_caller(alloc: Global) -> Result<MemoryBoard, Fail> {
-    let mut board = MemoryBoard::new(alloc, &[], plan(alloc, 0, 0, 0)?, 20, 0)?;
+    let mut board = empty_board(alloc)?;
     let _put = put_piece(&mut board, 0, 46, 0, &CALLER);
     Ok(board)
 }
 
-// What comes of putting pages by a plan, and then once more.
+// What comes of putting pages on a board on which something goes wrong, and then once more.
 #[derive(Clone, Copy, Debug, PartialEq, Eq)]
 struct PutAgain {
     first: Result<(), StoreFault>,
@@ -178,16 +146,14 @@ struct PutAgain {
 
 fn put_again(
     alloc: Global,
+    mut board: MemoryBoard,
     release: &SlotManifest,
     long: &[u8],
-    plan_of_first: BoardPlan,
 ) -> Result<PutAgain, Fail>
     requires { IsSlotManifest release.now }
 {
-    let mut board = with_caller(alloc)?;
-    board = board.restart(alloc, &[], plan_of_first)?;
     let first = put_pages(&mut board, long);
-    board = board.restart(alloc, &[], plan(alloc, 0, 0, 0)?)?;
+    let mut board = failing(alloc, board, 0)?;
     let found = open_set(&mut board, release).err();
     let _second = put_pages(&mut board, long);
     Ok(PutAgain {
@@ -217,26 +183,47 @@ fn mended(programs: u32) -> PutAgain {
     }
 }
 
+// The same where power is cut in this program.
+fn put_after_a_cut(
+    alloc: Global,
+    release: &SlotManifest,
+    long: &[u8],
+    stop_at: u32,
+    fill: u8,
+) -> Result<PutAgain, Fail>
+    requires { IsSlotManifest release.now }
+{
+    let board = stopping(alloc, with_caller(alloc)?, stop_at, spoilt(fill))?;
+    put_again(alloc, board, release, long)
+}
+
+// The same where this call fails.
+fn put_after_a_fault(
+    alloc: Global,
+    release: &SlotManifest,
+    long: &[u8],
+    fails: u32,
+) -> Result<PutAgain, Fail>
+    requires { IsSlotManifest release.now }
+{
+    let board = failing(alloc, with_caller(alloc)?, fails)?;
+    put_again(alloc, board, release, long)
+}
+
 #[test]
 fn pages_are_put_again_after_a_fault(rt: HostRuntime) -> Result<(), Fail> {
     let long = long_package(rt.alloc())?;
-    let bytes = manifest(rt.alloc(), long.as_slice())?;
-    let Some(release) = release(bytes.as_slice()) else {
-        assert!(rt; false, "no release");
-        return Ok(());
-    };
+    let release = release(manifest(rt.alloc(), long.as_slice())?.as_slice())?;
     // The pages before that of the stop are kept, whatever it left.
     for fill in 0..3u8 {
         for stop_at in 1..7u32 {
-            let plan = plan(rt.alloc(), 0, stop_at, fill)?;
-            let again = put_again(rt.alloc(), &release, long.as_slice(), plan)?;
+            let again = put_after_a_cut(rt.alloc(), &release, long.as_slice(), stop_at, fill)?;
             assert_eq!(rt; again, mended(6 - stop_at), "{stop_at} {fill}");
         }
     }
     // Each page takes a read and a program.
     for fails in 1..12u32 {
-        let plan = plan(rt.alloc(), fails, 0, 0)?;
-        let again = put_again(rt.alloc(), &release, long.as_slice(), plan)?;
+        let again = put_after_a_fault(rt.alloc(), &release, long.as_slice(), fails)?;
         assert_eq!(rt; again, mended(5 - (fails - 1) / 2), "{fails}");
     }
     Ok(())
@@ -429,46 +416,48 @@ fn ask<B: Board>(
     }
 }
 
-fn opened<B: Board>(board: &mut B, release: &SlotManifest) -> Option<StoredSet>
-    requires { IsSlotManifest release.now }
-    ensures { IfSome result IsSet }
-{
-    match open_set(board, release) {
-        Ok(set) => Some(set),
-        Err(_) => None,
-    }
-}
-
 // A call, how often it calls the board, and whether there is what it asks for.
 type Row = (Call, u32, bool);
 
-// The first row whose call answers otherwise, and which call of the board was to fail then. Each call of the board fails once; asked again,
-// the call answers as it does where none fails.
+// Which call of the board was to fail when the row's call answered otherwise, if any. Each call of the board fails once; asked again, the
+// row's call answers as it does where none fails.
+fn wrong_fault(
+    alloc: Global,
+    board: MemoryBoard,
+    release: &SlotManifest,
+    set: &StoredSet,
+    long: &[u8],
+    row: Row,
+) -> Result<(MemoryBoard, Option<u32>), Fail>
+    requires release { IsSlotManifest release.now }
+    requires set { IsSet set.now }
+{
+    let (call, calls, there) = row;
+    let mut board = board;
+    for fails in 1..calls.saturating_add(2) {
+        board = failing(alloc, board, fails)?;
+        if fails <= calls && ask(&mut board, release, set, long, call).is_ok() {
+            return Ok((board, Some(fails)));
+        }
+        if ask(&mut board, release, set, long, call) != Ok(there) {
+            return Ok((board, Some(fails)));
+        }
+    }
+    Ok((board, None))
+}
+
+// The first row whose call answers otherwise, and which call of the board was to fail then.
 fn first_wrong(alloc: Global, rows: &[Row]) -> Result<Option<(Call, u32)>, Fail> {
     let long = long_package(alloc)?;
-    let bytes = manifest(alloc, long.as_slice())?;
+    let release = release(manifest(alloc, long.as_slice())?.as_slice())?;
     let mut board = with_caller(alloc)?;
     let _put = put_pages(&mut board, long.as_slice());
-    let Some(release) = release(bytes.as_slice()) else {
-        return Ok(Some((Call::Check, 0)));
-    };
-    let Some(set) = opened(&mut board, &release) else {
-        return Ok(Some((Call::Open, 0)));
-    };
+    let set = found(&mut board, &release)?;
     for row in rows {
-        let (call, calls, there) = *row;
-        for fails in 1..calls.saturating_add(2) {
-            board = board.restart(alloc, &[], plan(alloc, fails, 0, 0)?)?;
-            if fails <= calls {
-                let answer = ask(&mut board, &release, &set, long.as_slice(), call);
-                if answer.is_ok() {
-                    return Ok(Some((call, fails)));
-                }
-            }
-            let answer = ask(&mut board, &release, &set, long.as_slice(), call);
-            if answer != Ok(there) {
-                return Ok(Some((call, fails)));
-            }
+        let (next, wrong) = wrong_fault(alloc, board, &release, &set, long.as_slice(), *row)?;
+        board = next;
+        if let Some(fails) = wrong {
+            return Ok(Some((row.0, fails)));
         }
     }
     Ok(None)
