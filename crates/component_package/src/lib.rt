@@ -67,8 +67,3 @@ pub fn manifest_is_one()
 pub fn stored_release_is_one()
     ensures { StoredReleaseIsOne }
 {}
-
-#[cfg(test)]
-mod manifest_tests;
-#[cfg(test)]
-mod tests;

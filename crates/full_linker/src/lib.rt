@@ -16,6 +16,3 @@ mod symbols;
 pub use fault::LinkFault;
 pub use linking::link;
 pub use set::may_be_linked;
-
-#[cfg(test)]
-mod tests;

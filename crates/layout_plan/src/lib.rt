@@ -6,6 +6,3 @@ mod planning;
 
 pub use plan::{Plan, PlanFault, Sizes};
 pub use planning::{linker_symbol, plan_of};
-
-#[cfg(test)]
-mod tests;

@@ -1,6 +1,6 @@
 //! Sums at the limits.
 
-use super::*;
+use layout_plan::{PlanFault, Sizes, plan_of};
 use std::test::Fail;
 
 fn sizes(code: u16, init: u16, bss: u16) -> Sizes {
