@@ -133,6 +133,3 @@ pub fn boot<B: Board>(board: &mut B) -> Result<u32, BootFault>
     }
     Ok(standing.current.manifest.release)
 }
-
-#[cfg(test)]
-mod tests;

@@ -14,6 +14,3 @@ mod standing;
 pub use gates::{Stage, abandon, finish, go, mark, unlink};
 pub use manifest::put_manifest;
 pub use standing::{JournalFault, Standing, read_state};
-
-#[cfg(test)]
-mod tests;
