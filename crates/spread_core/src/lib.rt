@@ -38,6 +38,3 @@ pub fn frames_say_messages()
 pub fn tails_mean_nothing()
     ensures { TailsMeanNothing }
 {}
-
-#[cfg(test)]
-mod tests;
