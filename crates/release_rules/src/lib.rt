@@ -7,12 +7,8 @@ mod body;
 mod decision;
 mod law;
 mod mote;
-#[cfg(test)]
-mod objects;
 mod rules;
 mod settle;
-#[cfg(test)]
-mod tests;
 
 pub use decision::Decision;
 pub use law::{answers_are_one, only_commands_change};

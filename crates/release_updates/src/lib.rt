@@ -23,6 +23,3 @@ pub fn updates_of_rows()
 pub fn worked_updates()
     ensures { WorkedUpdates }
 {}
-
-#[cfg(test)]
-mod tests;

@@ -11,6 +11,3 @@ mod version;
 
 pub use law::{kept_numbers_differ, refused_for_want};
 pub use version::judge_version;
-
-#[cfg(test)]
-mod tests;

@@ -4,11 +4,11 @@ ghost use Rattle.std.specs.Prelude.{◌≡◌, ◌≤◌, true};
 ghost use Rattle.release_rules.specs.Deciding.{IsAllowed, IsSafely};
 
 use crate::objects::{Object, object_file};
-use crate::{Decision, decide, mote_body};
 use component_package::Text;
 use http_bodies::refusal_body;
 use release_keeper::{Keeper, MemoryKeeper};
 use release_rows::{Command, Part, Parts, RowsFault};
+use release_rules::{Decision, decide, mote_body};
 use std::alloc::{AllocError, Global};
 
 #[derive(Clone, Copy)]

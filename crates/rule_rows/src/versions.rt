@@ -3,113 +3,15 @@
 ghost use Rattle.std.specs.Prelude.{None};
 ghost use Rattle.release_judging.specs.Judging.{IsSoundly};
 
-use super::judge_version;
+use crate::objects::{Object, object_file};
 use component_package::{Bytes, Text};
 use release_judging::{Judged, text_of};
 use release_keeper::{Keeper, MemoryKeeper};
 use release_rows::{Change, Effect, KeyRow, NumberedParts, Rows, RowsFault};
+use release_versions::judge_version;
 use std::alloc::{AllocError, Global};
 use std::process::Abort;
 use std::test::Fail;
-
-/// The file header, but for the sixteen bytes of the identification: relocatable, AVR, version 1, no
-/// entry, no program headers, section headers at 442, avr5, sizes, thirteen sections, names in the last.
-const FILE_HEADER: [u8; 36] = [
-    1, 0, 83, 0, 1, 0, 0, 0, 0, 0, 0, 0, 0, 0, 0, 0, 186, 1, 0, 0, 0x85, 0, 0, 0, 52, 0, 0, 0, 0,
-    0, 40, 0, 13, 0, 12, 0,
-];
-
-/// The section headers: name, type, flags, address, offset, size, link, info, alignment, entry size.
-const SECTIONS: [[u32; 10]; 13] = [
-    [0, 0, 0, 0, 0, 0, 0, 0, 0, 0],
-    [1, 1, 6, 0, 52, 0, 0, 0, 1, 0],
-    [7, 1, 3, 0, 52, 3, 0, 0, 1, 0],
-    [13, 8, 3, 0, 55, 2, 0, 0, 1, 0],
-    [18, 1, 6, 0, 55, 12, 0, 0, 1, 0],
-    [29, 4, 0x40, 0, 67, 48, 10, 4, 4, 12],
-    [45, 1, 2, 0, 115, 5, 0, 0, 1, 0],
-    [59, 1, 2, 0, 120, 4, 0, 0, 1, 0],
-    [67, 1, 0, 0, 124, 4, 0, 0, 1, 0],
-    [79, 4, 0x40, 0, 128, 12, 10, 8, 4, 12],
-    [96, 2, 0, 0, 140, 128, 11, 3, 4, 16],
-    [104, 3, 0, 0, 268, 52, 0, 0, 1, 0],
-    [112, 3, 0, 0, 320, 122, 0, 0, 1, 0],
-];
-
-/// Symbols: name, value, size, binding and type, section.
-const SYMBOLS: [[u32; 5]; 8] = [
-    [0, 0, 0, 0, 0],
-    [0, 0, 0, 0x03, 7],
-    [0, 0, 0, 0x03, 4],
-    [1, 0, 12, 0x12, 4],
-    [6, 0, 2, 0x11, 3],
-    [12, 0, 0, 0x10, 0],
-    [22, 0, 0, 0x10, 0],
-    [37, 0, 0, 0x10, 0],
-];
-
-/// Relocations of `.text.send`, then of `.debug_info`: offset, type, symbol, addend.
-const RELAS: [[u32; 4]; 5] = [
-    [0, 6, 1, 1],
-    [2, 7, 1, 1],
-    [4, 18, 5, 0],
-    [8, 3, 2, 0],
-    [0, 4, 2, 0xFFFF_FFFF],
-];
-
-const SEND: [u8; 12] = [
-    0x80, 0xE0, 0x90, 0xE0, 0x0E, 0x94, 0, 0, 0, 0xC0, 0x08, 0x95,
-];
-
-fn push_u32(out: &mut Vec<u8>, n: u32) -> Result<(), AllocError> {
-    for b in n.to_le_bytes() {
-        out.push(b)?;
-    }
-    Ok(())
-}
-
-fn push_relas(out: &mut Vec<u8>, relas: &[[u32; 4]]) -> Result<(), AllocError> {
-    for [offset, kind, symbol, addend] in relas {
-        push_u32(out, *offset)?;
-        push_u32(out, symbol.wrapping_mul(256) | *kind)?;
-        push_u32(out, *addend)?;
-    }
-    Ok(())
-}
-
-fn push_symbols(out: &mut Vec<u8>) -> Result<(), AllocError> {
-    for [name, value, size, info, section] in SYMBOLS {
-        push_u32(out, name)?;
-        push_u32(out, value)?;
-        push_u32(out, size)?;
-        push_u32(out, info | section.wrapping_mul(65536))?;
-    }
-    Ok(())
-}
-
-/// The object: a component that sends a count, as a compiler would write it.
-fn sender(alloc: Global) -> Result<Vec<u8>, AllocError> {
-    let mut out = Vec::new(alloc);
-    out.extend_from_slice(b"\x7FELF\x01\x01\x01\0\0\0\0\0\0\0\0\0")?;
-    out.extend_from_slice(&FILE_HEADER)?;
-    out.extend_from_slice(b"\x0A\x0B\x0C")?;
-    out.extend_from_slice(&SEND)?;
-    push_relas(&mut out, &RELAS[..4])?;
-    out.extend_from_slice(b"\x01\x02\x03\x04\x05abc\0\0\0\0\0")?;
-    push_relas(&mut out, &RELAS[4..])?;
-    push_symbols(&mut out)?;
-    out.extend_from_slice(b"\0send\0count\0radio_put\0__do_copy_data\0__do_clear_bss\0")?;
-    out.extend_from_slice(b"\0.text\0.data\0.bss\0.text.send\0.rela.text.send\0.progmem.data\0")?;
-    out.extend_from_slice(
-        b".rodata\0.debug_info\0.rela.debug_info\0.symtab\0.strtab\0.shstrtab\0",
-    )?;
-    for fields in SECTIONS {
-        for n in fields {
-            push_u32(&mut out, n)?;
-        }
-    }
-    Ok(out)
-}
 
 /// The package of the sender as component 1 in version 1, where its names have numbers 16, 17 and 18.
 const PACKAGE: [u8; 102] = [
@@ -117,34 +19,6 @@ const PACKAGE: [u8; 102] = [
     0, 0, 0, 0, 0, 0x80, 0xE0, 0x90, 0xE0, 0x0E, 0x94, 0, 0, 0, 0xC0, 0x08, 0x95, 1, 2, 3, 4, 5, 0,
     0x0A, 0x0B, 0x0C, 0, 0x61, 0x62, 0x63, 0, 16, 0, 0, 0, 0, 0, 17, 0, 2, 0, 0, 0, 0, 0, 0, 6, 1,
     0, 5, 0, 2, 0, 0, 7, 1, 0, 5, 0, 4, 0, 0, 18, 18, 0, 0, 0, 8, 0, 0, 3, 0, 0, 0, 0,
-];
-
-/// An object whose `.text` is `radio_put`, which it exports.
-fn radio(alloc: Global) -> Result<Vec<u8>, AllocError> {
-    let mut out = Vec::new(alloc);
-    out.extend_from_slice(b"\x7FELF\x01\x01\x01\0\0\0\0\0\0\0\0\0")?;
-    out.extend_from_slice(&[1, 0, 83, 0, 1, 0, 0, 0, 0, 0, 0, 0, 0, 0, 0, 0])?;
-    out.extend_from_slice(&[130, 0, 0, 0, 0x85, 0, 0, 0, 52, 0, 0, 0])?;
-    out.extend_from_slice(&[0, 0, 40, 0, 5, 0, 4, 0, 0x08, 0x95])?;
-    out.extend_from_slice(&[0; 16])?;
-    out.extend_from_slice(&[1, 0, 0, 0, 0, 0, 0, 0, 2, 0, 0, 0, 0x12, 0, 1, 0])?;
-    out.extend_from_slice(b"\0radio_put\0")?;
-    out.extend_from_slice(b"\0.text\0.symtab\0.strtab\0.shstrtab\0")?;
-    for fields in RADIO_SECTIONS {
-        for n in fields {
-            push_u32(&mut out, n)?;
-        }
-    }
-    Ok(out)
-}
-
-/// The section headers of the radio's object.
-const RADIO_SECTIONS: [[u32; 10]; 5] = [
-    [0, 0, 0, 0, 0, 0, 0, 0, 0, 0],
-    [1, 1, 6, 0, 52, 2, 0, 0, 1, 0],
-    [7, 2, 0, 0, 54, 32, 3, 1, 4, 16],
-    [15, 3, 0, 0, 86, 11, 0, 0, 1, 0],
-    [23, 3, 0, 0, 97, 33, 0, 0, 1, 0],
 ];
 
 /// What is said of an object, as numbers: of a refusal its number and its values; of a version 0, the component, the version and the
@@ -250,7 +124,7 @@ const EMPTY: Answers = Answers {
 };
 
 /// Answers of rows, and what is said of the sender where they answer so.
-const CASES: [(Answers, &[i64]); 20] = [
+const CASES: [(Answers, &'static [i64]); 20] = [
     (EMPTY, &[0, 1, 1, 16, 17, 18]),
     // Room for components, then for versions, then for symbols.
     (
@@ -420,13 +294,21 @@ fn check_case(
     Ok(())
 }
 
-#[test]
-fn gives_numbers_where_there_is_room(rt: HostRuntime) -> Result<(), Fail> {
-    let object = sender(rt.alloc())?;
-    for (answers, wanted) in CASES {
-        check_case(&rt, rt.alloc(), &object, answers, wanted)?;
+fn check_cases(
+    rt: &impl Abort,
+    alloc: Global,
+    cases: &[(Answers, &'static [i64])],
+) -> Result<(), Fail> {
+    let object = object_file(alloc, Object::Sender)?;
+    for (answers, wanted) in cases {
+        check_case(rt, alloc, object.as_slice(), *answers, wanted)?;
     }
     Ok(())
+}
+
+#[test]
+fn gives_numbers_where_there_is_room(rt: HostRuntime) -> Result<(), Fail> {
+    check_cases(&rt, rt.alloc(), &CASES)
 }
 
 /// The package of the radio as component 2 in version 1, where its name has number 18.
@@ -479,14 +361,14 @@ fn keep(
 #[test]
 fn keeps_versions(rt: HostRuntime) -> Result<(), Fail> {
     let mut rows = MemoryKeeper::new(rt.alloc(), Vec::new(rt.alloc()));
-    let object = sender(rt.alloc())?;
+    let object = object_file(rt.alloc(), Object::Sender)?;
     let package = keep(
         &rt,
         rt.alloc(),
         &mut rows,
         "sender",
         "1",
-        &object,
+        object.as_slice(),
         &[0, 1, 1, 16, 17, 18],
     )?;
     assert_eq!(rt; package.as_slice(), PACKAGE.as_slice());
@@ -496,12 +378,20 @@ fn keeps_versions(rt: HostRuntime) -> Result<(), Fail> {
         &mut rows,
         "sender",
         "2",
-        &object,
+        object.as_slice(),
         &[0, 1, 2],
     )?;
     assert_eq!(rt; again.len(), 102);
-    let other = radio(rt.alloc())?;
-    let package = keep(&rt, rt.alloc(), &mut rows, "radio", "3", &other, &[0, 2, 1])?;
+    let other = object_file(rt.alloc(), Object::Radio)?;
+    let package = keep(
+        &rt,
+        rt.alloc(),
+        &mut rows,
+        "radio",
+        "3",
+        other.as_slice(),
+        &[0, 2, 1],
+    )?;
     assert_eq!(rt; package.as_slice(), RADIO_PACKAGE.as_slice());
     Ok(())
 }

@@ -4,7 +4,7 @@ use component_package::Bytes;
 use std::alloc::{AllocError, Global};
 
 #[derive(Clone, Copy)]
-pub(crate) enum Object {
+pub enum Object {
     /// A component that sends a count: it defines `send` and `count`, and calls `radio_put`.
     Sender,
     /// A component that defines `radio_put`.
@@ -125,7 +125,7 @@ fn written(alloc: Global, file: &File) -> Result<Vec<u8>, AllocError> {
 }
 
 /// The bytes of an object file.
-pub(crate) fn object_file(alloc: Global, object: Object) -> Result<Bytes, AllocError> {
+pub fn object_file(alloc: Global, object: Object) -> Result<Bytes, AllocError> {
     let mut bytes = match object {
         Object::Sender | Object::Cut => written(alloc, &SENDER)?,
         Object::Radio => written(alloc, &RADIO)?,

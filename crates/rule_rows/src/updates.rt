@@ -3,11 +3,11 @@
 ghost use Rattle.std.specs.Prelude.{◌≡◌, true};
 ghost use Rattle.release_rows.specs.Change.{IsPackageOf};
 
-use crate::update_frames;
 use component_package::{Bytes, read_package};
 use release_judging::{Judged, judge_release, text_of};
 use release_keeper::{Keeper, MemoryKeeper};
 use release_rows::{Change, Effect, KeyRow, Part, RowsFault, SymbolRows};
+use release_updates::update_frames;
 use std::alloc::{AllocError, Global};
 use std::test::Fail;
 
