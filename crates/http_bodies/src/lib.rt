@@ -11,8 +11,6 @@ mod name;
 mod part;
 mod parts;
 mod reply;
-#[cfg(test)]
-mod tests;
 
 pub use acknowledgement::read_acknowledgement;
 pub use fault::BodyFault;

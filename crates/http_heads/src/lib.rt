@@ -6,8 +6,6 @@
 mod fields;
 mod head;
 pub mod law;
-#[cfg(test)]
-mod tests;
 
 pub use fields::{BodyLength, body_length, request_key};
 pub use head::{HeadRead, read_head};

@@ -3,8 +3,6 @@
 
 mod paths;
 mod query;
-#[cfg(test)]
-mod tests;
 
 pub use paths::{Route, Target, find, make_router};
 pub use query::{path_of, query_of, read_have};

@@ -7,8 +7,6 @@ mod asks;
 mod body;
 pub mod law;
 mod take;
-#[cfg(test)]
-mod tests;
 
 pub use asks::{Asking, Posting, ask};
 pub use take::{Taken, WholeRequest, take_request};

@@ -6,8 +6,6 @@ ghost use Rattle.std.specs.List.{list_all};
 ghost use Rattle.http_texts.specs.Texts.{is_name_byte as name_byte_test, is_name as name_test, is_key_byte as key_byte_test, is_key as key_test};
 
 mod numeral;
-#[cfg(test)]
-mod tests;
 
 pub use numeral::{Numeral, read_number};
 

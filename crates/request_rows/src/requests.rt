@@ -1,13 +1,14 @@
-//! Whether the definitions say what is meant: hostile requests, whole and a byte at a time.
+//! Hostile requests, whole and a byte at a time, and each read of one failing.
 ghost use Rattle.std.specs.Prelude.{◌≡◌, ◌<◌, length};
 ghost use Rattle.http_paths.specs.Routes.{routes};
 
-use crate::{Asking, Posting, Taken, ask, take_request};
+use crate::inputs::{long_head, source};
 use http_edges::{Failed, MemorySource};
 use http_paths::{Route, make_router};
+use http_requests::{Asking, Posting, Taken, ask, take_request};
 use httparse::spans::{EMPTY_HEADER_SPAN, HeaderSpan};
 use matchit::Router;
-use std::alloc::Global;
+use std::alloc::{AllocError, Global};
 use std::test::Fail;
 
 #[derive(Clone, Copy, Debug, PartialEq, Eq)]
@@ -84,18 +85,20 @@ fn tell_input(
     input: &[u8],
     chunk: usize,
     fail: u32,
-) -> Result<Option<Told>, Fail>
+) -> Result<Option<Told>, AllocError>
     requires routes { router.now ≡ routes }
     requires chunk { 0 < chunk }
 {
-    let fail = [fail].to_vec(alloc)?;
-    let mut source = MemorySource::new(input.to_vec(alloc)?, chunk, fail);
+    let mut source = source(alloc, input, chunk, fail)?;
     let mut buffer = vec![in alloc; 0; 8192]?;
     let mut headers = vec![in alloc; EMPTY_HEADER_SPAN; 2800]?;
     Ok(tell(alloc, router, &mut source, &mut buffer, &mut headers).ok())
 }
 
-const ROWS: [(&[u8], Told); 49] = [
+/// The bytes of a source, and what they are found to be.
+type Row = (&'static [u8], Told);
+
+const REQUESTS: [Row; 49] = [
     (b"GET /motes/m HTTP/1.1\r\n\r\n", Told::Mote),
     (b"GET /motes/m HTTP/1.0\n\n", Told::Mote),
     (
@@ -240,69 +243,115 @@ const ROWS: [(&[u8], Told); 49] = [
     (b"", Told::Cut),
 ];
 
+// Whether an input is found to be this, whole and a byte at a time.
+fn is_told(alloc: Global, router: &Router<Route>, row: &Row) -> Result<bool, AllocError>
+    requires { router.now ≡ routes }
+{
+    let (input, wanted) = *row;
+    let whole = tell_input(alloc, router, input, 8192, 0)?;
+    let in_pieces = tell_input(alloc, router, input, 1, 0)?;
+    Ok(whole == Some(wanted) && in_pieces == Some(wanted))
+}
+
+// The first of these rows whose bytes are found to be something else.
+fn first_other(
+    alloc: Global,
+    router: &Router<Route>,
+    rows: &[Row],
+) -> Result<Option<usize>, AllocError>
+    requires { router.now ≡ routes }
+{
+    for (i, row) in rows.iter().enumerate() {
+        if !is_told(alloc, router, row)? {
+            return Ok(Some(i));
+        }
+    }
+    Ok(None)
+}
+
 #[test]
 fn requests_are_told(rt: HostRuntime) -> Result<(), Fail> {
     let router = make_router(rt.alloc())?;
-    for (input, wanted) in ROWS {
-        for chunk in [8192, 1] {
-            let told = tell_input(rt.alloc(), &router, input, chunk, 0)?;
-            assert_eq!(rt; told, Some(wanted), "{input:?}");
-        }
-    }
+    assert_eq!(rt; first_other(rt.alloc(), &router, &REQUESTS)?, None);
     Ok(())
 }
 
-// A request with so many bytes of target and so many fields.
-fn request(alloc: Global, target: usize, fields: usize, body: usize) -> Result<Vec<u8>, Fail> {
-    let mut bytes = b"GET /".to_vec(alloc)?;
-    for _ in 1..target {
-        bytes.push(b'a')?;
-    }
-    bytes.extend_from_slice(b" HTTP/1.1\r\n")?;
-    for _ in 0..fields {
-        bytes.extend_from_slice(b"a:b\r\n")?;
-    }
-    bytes.extend_from_slice(b"content-length: 262144\r\n\r\n")?;
+/// How many bytes of target, fields and bytes of body a request has, and what it is found to be.
+type Long = (usize, usize, usize, Told);
+
+const LONG: [Long; 5] = [
+    (1, 31, 262_144, Told::NotFound),
+    (1, 31, 262_143, Told::Cut),
+    (1, 32, 262_144, Told::BadHead),
+    (8151, 0, 262_144, Told::NotFound),
+    (8152, 0, 262_144, Told::NoHead),
+];
+
+// A request with so many bytes of target, so many fields and one for its length, and so many bytes of body.
+fn long_request(
+    alloc: Global,
+    target: usize,
+    fields: usize,
+    body: usize,
+) -> Result<Vec<u8>, AllocError> {
+    let mut bytes = long_head(alloc, target, fields, b"content-length: 262144\r\n\r\n")?;
     for _ in 0..body {
         bytes.push(0)?;
     }
     Ok(bytes)
 }
 
+// The first of these rows whose request is found to be something else.
+fn first_other_long(
+    alloc: Global,
+    router: &Router<Route>,
+    rows: &[Long],
+) -> Result<Option<usize>, AllocError>
+    requires { router.now ≡ routes }
+{
+    for (i, (target, fields, body, wanted)) in rows.iter().enumerate() {
+        let bytes = long_request(alloc, *target, *fields, *body)?;
+        if tell_input(alloc, router, &bytes, 5000, 0)? != Some(*wanted) {
+            return Ok(Some(i));
+        }
+    }
+    Ok(None)
+}
+
 #[test]
 fn long_requests_are_told(rt: HostRuntime) -> Result<(), Fail> {
     let router = make_router(rt.alloc())?;
-    let rows = [
-        (1, 31, 262_144, Told::NotFound),
-        (1, 31, 262_143, Told::Cut),
-        (1, 32, 262_144, Told::BadHead),
-        (8151, 0, 262_144, Told::NotFound),
-        (8152, 0, 262_144, Told::NoHead),
-    ];
-    for (target, fields, body, wanted) in rows {
-        let bytes = request(rt.alloc(), target, fields, body)?;
-        let told = tell_input(rt.alloc(), &router, &bytes, 5000, 0)?;
-        assert_eq!(rt; told, Some(wanted), "{target} {fields} {body}");
-    }
+    assert_eq!(rt; first_other_long(rt.alloc(), &router, &LONG)?, None);
     Ok(())
+}
+
+const ACKNOWLEDGEMENT: &[u8] =
+    b"POST /motes/m/acks HTTP/1.1\r\nContent-Length: 13\r\nRequest-Key: k\r\n\r\n{\"release\":1}";
+
+// The first read of so many whose failing isn't told.
+fn first_untold(
+    alloc: Global,
+    router: &Router<Route>,
+    input: &[u8],
+    reads: u32,
+) -> Result<Option<u32>, AllocError>
+    requires { router.now ≡ routes }
+{
+    for fail in 1..reads.saturating_add(1) {
+        if tell_input(alloc, router, input, 10, fail)?.is_some() {
+            return Ok(Some(fail));
+        }
+    }
+    Ok(None)
 }
 
 #[test]
 fn faults_are_told(rt: HostRuntime) -> Result<(), Fail> {
-    let router = make_router(rt.alloc())?;
-    let input =
-        b"POST /motes/m/acks HTTP/1.1\r\nContent-Length: 13\r\nRequest-Key: k\r\n\r\n{\"release\":1}";
-    for fail in 1..10 {
-        let told = tell_input(rt.alloc(), &router, input, 10, fail)?;
-        assert_eq!(rt;
-            told,
-            if fail == 9 {
-                Some(Told::Post(3, true))
-            } else {
-                None
-            },
-            "{fail}"
-        );
-    }
+    let alloc = rt.alloc();
+    let router = make_router(alloc)?;
+    assert_eq!(rt; first_untold(alloc, &router, ACKNOWLEDGEMENT, 8)?, None);
+    // There is no ninth read.
+    let told = tell_input(alloc, &router, ACKNOWLEDGEMENT, 10, 9)?;
+    assert_eq!(rt; told, Some(Told::Post(3, true)));
     Ok(())
 }

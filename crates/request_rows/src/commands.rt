@@ -1,6 +1,7 @@
-//! Whether bodies command what they say.
-use crate::command_of;
+//! Bodies and what they command.
+
 use http_bodies::BodyFault;
+use http_commands::command_of;
 use http_requests::Posting;
 use release_rows::Command;
 use std::alloc::{AllocError, Global};
@@ -43,7 +44,10 @@ fn tell(alloc: Global, posting: Posting<'_>, body: Vec<u8>) -> Told {
     }
 }
 
-const ROWS: [(Posting, &[u8], Told); 13] = [
+/// What a POST is for, its body, and what it says.
+type Row = (Posting<'static>, &'static [u8], Told);
+
+const ROWS: [Row; 13] = [
     (Posting::Version("a"), b"", Told::Version(0)),
     (Posting::Version("a"), b"\0\xFF", Told::Version(2)),
     (Posting::Release("m"), b"[[\"a\",1]]", Told::Release(1, 1)),
@@ -80,10 +84,7 @@ const ROWS: [(Posting, &[u8], Told); 13] = [
 ];
 
 // The first of these rows whose body says something else.
-fn first_wrong(
-    alloc: Global,
-    rows: &[(Posting<'_>, &[u8], Told)],
-) -> Result<Option<usize>, AllocError> {
+fn first_other(alloc: Global, rows: &[Row]) -> Result<Option<usize>, AllocError> {
     for (i, (posting, body, wanted)) in rows.iter().enumerate() {
         if tell(alloc, *posting, body.to_vec(alloc)?) != *wanted {
             return Ok(Some(i));
@@ -94,7 +95,6 @@ fn first_wrong(
 
 #[test]
 fn bodies_are_commands(rt: HostRuntime) -> Result<(), Fail> {
-    let wrong = first_wrong(rt.alloc(), &ROWS)?;
-    assert_eq!(rt; wrong, None);
+    assert_eq!(rt; first_other(rt.alloc(), &ROWS)?, None);
     Ok(())
 }
