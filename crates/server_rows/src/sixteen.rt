@@ -1,0 +1,216 @@
+//! A release of as many components as there can be, decided on and done.
+
+use crate::commands::{Ask, Named, comes_to, command_of, does, release_command, version_command};
+use crate::objects::{RADIO, edited};
+use component_package::Bytes;
+use http_bodies::read_parts;
+use release_judging::{ImageAnswer, release_image};
+use release_keeper::MemoryKeeper;
+use release_rows::{Command, Rows, RowsFault};
+use release_rules::mote_body;
+use release_updates::update_frames;
+use std::alloc::{AllocError, Global};
+use std::test::Fail;
+
+/// The names of components 1 to 16. The code of each begins with its letter, and so does the name of its symbol.
+const NAMES: [&str; 16] = [
+    "a", "b", "c", "d", "e", "f", "g", "h", "i", "j", "k", "l", "m", "n", "o", "p",
+];
+
+/// All of them in another order, and their numbers.
+const PARTS: Named = &[
+    ("p", 1),
+    ("a", 1),
+    ("o", 1),
+    ("b", 1),
+    ("n", 1),
+    ("c", 1),
+    ("m", 1),
+    ("d", 1),
+    ("l", 1),
+    ("e", 1),
+    ("k", 1),
+    ("f", 1),
+    ("j", 1),
+    ("g", 1),
+    ("i", 1),
+    ("h", 1),
+];
+
+const NUMBERS: [u8; 16] = [16, 1, 15, 2, 14, 3, 13, 4, 12, 5, 11, 6, 10, 7, 9, 8];
+
+/// The image of these parts, and what the mote has.
+const IMAGE: &[u8] =
+    b"p\x95a\x95o\x95b\x95n\x95c\x95m\x95d\x95l\x95e\x95k\x95f\x95j\x95g\x95i\x95h\x95";
+
+const MOTE: &str =
+    "{\"acknowledged\":0,\"components\":[[\"p\",1],[\"a\",1],[\"o\",1],[\"b\",1],[\"n\",1],[\"c\",1],[\"m\",1],[\"d\",1],[\"l\",1],[\"e\",1],[\"k\",1],[\"f\",1],[\"j\",1],[\"g\",1],[\"i\",1],[\"h\",1]],\"mote\":\"m1\",\"release\":1}";
+
+/// What is no sixteenth part beside components 1 to 15: one of them in the same version and in another, a component that isn't there, and a
+/// version that isn't there.
+const NO_PARTS: [(&str, u16); 5] = [("a", 1), ("o", 2), ("q", 1), ("p", 2), ("p", 0)];
+
+/// The bodies that ask for components 1 to 16, and for one more.
+const SIXTEEN: &[u8] =
+    b"[[\"a\",1],[\"b\",1],[\"c\",1],[\"d\",1],[\"e\",1],[\"f\",1],[\"g\",1],[\"h\",1],[\"i\",1],[\"j\",1],[\"k\",1],[\"l\",1],[\"m\",1],[\"n\",1],[\"o\",1],[\"p\",1]]";
+
+const SEVENTEEN: &[u8] =
+    b"[[\"a\",1],[\"b\",1],[\"c\",1],[\"d\",1],[\"e\",1],[\"f\",1],[\"g\",1],[\"h\",1],[\"i\",1],[\"j\",1],[\"k\",1],[\"l\",1],[\"m\",1],[\"n\",1],[\"o\",1],[\"p\",1],[\"q\",1]]";
+
+// The command that adds the component of this name: a radio whose code and whose symbol begin with its letter.
+fn component(alloc: Global, name: &str) -> Result<Command, AllocError> {
+    let letter = name.as_bytes();
+    let object = edited(alloc, RADIO, 330, &[(52, letter), (87, letter)])?;
+    version_command(alloc, name, Bytes::of(object))
+}
+
+// Adds components of these names. Whether each was accepted.
+fn adds(alloc: Global, keeper: &mut MemoryKeeper, names: &[&str]) -> Result<bool, RowsFault> {
+    for name in names {
+        let command = component(alloc, name)?;
+        if !does(alloc, keeper, name, &command)? {
+            return Ok(false);
+        }
+    }
+    Ok(true)
+}
+
+// Whether the mote's only release has these components in their first versions.
+fn is_kept(keeper: &mut MemoryKeeper, numbers: &[u8]) -> Result<bool, RowsFault> {
+    let Some(parts) = keeper.release("m1", 1)? else {
+        return Ok(false);
+    };
+    if parts.as_slice().len() != numbers.len() {
+        return Ok(false);
+    }
+    for (part, number) in parts.as_slice().iter().zip(numbers) {
+        if part.component != *number as u16 || part.version != 1 {
+            return Ok(false);
+        }
+    }
+    Ok(keeper.release_count("m1")? == 1)
+}
+
+fn has_image(alloc: Global, keeper: &mut MemoryKeeper, wanted: &[u8]) -> Result<bool, RowsFault> {
+    match release_image(alloc, keeper, "m1", 1)? {
+        ImageAnswer::Image(bytes) => Ok(bytes.as_slice() == wanted),
+        _ => Ok(false),
+    }
+}
+
+// What follows the entries of these components in their first versions, with packages of 40 bytes.
+fn behind_entries<'a>(bytes: &'a [u8], numbers: &[u8]) -> Option<&'a [u8]> {
+    let mut rest = bytes;
+    for number in numbers {
+        if !rest.starts_with(&[*number, 0, 1, 0, 40, 0]) {
+            return None;
+        }
+        rest = rest.get(38..)?;
+    }
+    Some(rest)
+}
+
+// What follows the only piece of each of these components.
+fn behind_pieces<'a>(bytes: &'a [u8], numbers: &[u8]) -> Option<&'a [u8]> {
+    let mut rest = bytes;
+    let mut ordinal = 0u8;
+    for number in numbers {
+        if !rest.starts_with(&[
+            2, 42, 0, ordinal, 0, b'F', b'C', b'P', b'1', *number, 0, 1, 0,
+        ]) {
+            return None;
+        }
+        rest = rest.get(45..)?;
+        ordinal = ordinal.saturating_add(1);
+    }
+    Some(rest)
+}
+
+// Whether these are the frames that bring these components to a mote that has none.
+fn is_update(bytes: &[u8], numbers: &[u8]) -> Option<bool> {
+    if !bytes.starts_with(&[1, 0x65, 2, 1, 0, 0, 0, 16]) {
+        return None;
+    }
+    let pieces = behind_entries(bytes.get(8..)?, numbers)?;
+    let rest = behind_pieces(pieces, numbers)?;
+    Some(rest == [3, 0, 0, 4, 0, 0, 8, 0, 0].as_slice())
+}
+
+fn has_update(alloc: Global, keeper: &mut MemoryKeeper, numbers: &[u8]) -> Result<bool, RowsFault> {
+    match update_frames(alloc, keeper, "m1", 0)? {
+        Some(bytes) => Ok(is_update(bytes.as_slice(), numbers) == Some(true)),
+        None => Ok(false),
+    }
+}
+
+fn has_text(alloc: Global, keeper: &mut MemoryKeeper, wanted: &str) -> Result<bool, RowsFault> {
+    match mote_body(alloc, keeper, "m1")? {
+        Some(text) => Ok(text.as_str() == wanted),
+        None => Ok(false),
+    }
+}
+
+#[test]
+fn sixteen_components_are_a_release(rt: HostRuntime) -> Result<(), Fail> {
+    let mut keeper = MemoryKeeper::new(rt.alloc(), Vec::new(rt.alloc()));
+    assert!(rt; adds(rt.alloc(), &mut keeper, &NAMES)?);
+    let release = command_of(rt.alloc(), Ask::Release("m1", PARTS))?;
+    assert!(rt; does(rt.alloc(), &mut keeper, "r", &release)?);
+    assert!(rt; is_kept(&mut keeper, &NUMBERS)?);
+    assert!(rt; has_image(rt.alloc(), &mut keeper, IMAGE)?);
+    assert!(rt; has_update(rt.alloc(), &mut keeper, &NUMBERS)?);
+    assert!(rt; has_text(rt.alloc(), &mut keeper, MOTE)?);
+    Ok(())
+}
+
+// The command for a release of all of these but the last, and this part.
+fn release_with(
+    alloc: Global,
+    names: &[&'static str],
+    last: (&'static str, u16),
+) -> Result<Command, AllocError> {
+    let mut parts = Vec::new(alloc);
+    for name in names {
+        parts.push((*name, 1))?;
+    }
+    parts.pop();
+    parts.push(last)?;
+    release_command(alloc, "m1", &parts)
+}
+
+// The first of these that is a sixteenth part all the same.
+fn first_part(
+    alloc: Global,
+    keeper: &mut MemoryKeeper,
+    names: &[&'static str],
+    rows: &[(&'static str, u16)],
+) -> Result<Option<usize>, RowsFault> {
+    for (i, last) in rows.iter().enumerate() {
+        let command = release_with(alloc, names, *last)?;
+        if !comes_to(alloc, keeper, &command, &[404])? {
+            return Ok(Some(i));
+        }
+    }
+    Ok(None)
+}
+
+#[test]
+fn others_are_none(rt: HostRuntime) -> Result<(), Fail> {
+    let mut keeper = MemoryKeeper::new(rt.alloc(), Vec::new(rt.alloc()));
+    assert!(rt; adds(rt.alloc(), &mut keeper, &NAMES)?);
+    assert_eq!(rt;
+        first_part(rt.alloc(), &mut keeper, &NAMES, &NO_PARTS)?,
+        None
+    );
+    assert_eq!(rt; keeper.release_count("m1")?, 0);
+    let release = release_with(rt.alloc(), &NAMES, ("p", 1))?;
+    assert!(rt; comes_to(rt.alloc(), &mut keeper, &release, &[201])?);
+    Ok(())
+}
+
+// A release of more is none that may be decided: the body that asks for it gives no parts.
+#[test]
+fn seventeen_are_not_asked_for(rt: HostRuntime) {
+    assert!(rt; read_parts(rt.alloc(), SIXTEEN).is_ok());
+    assert!(rt; read_parts(rt.alloc(), SEVENTEEN).is_err());
+}
