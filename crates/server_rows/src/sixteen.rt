@@ -3,7 +3,7 @@
 use crate::commands::{Ask, Named, comes_to, command_of, does, release_command, version_command};
 use crate::objects::{RADIO, edited};
 use component_package::Bytes;
-use http_bodies::read_parts;
+use http_bodies::{BodyFault, read_parts};
 use release_judging::{ImageAnswer, release_image};
 use release_keeper::MemoryKeeper;
 use release_rows::{Command, Rows, RowsFault};
@@ -208,9 +208,12 @@ fn others_are_none(rt: HostRuntime) -> Result<(), Fail> {
     Ok(())
 }
 
-// A release of more is none that may be decided: the body that asks for it gives no parts.
+// More are no release that may be decided: the body that asks for them gives no parts.
 #[test]
 fn seventeen_are_not_asked_for(rt: HostRuntime) {
-    assert!(rt; read_parts(rt.alloc(), SIXTEEN).is_ok());
-    assert!(rt; read_parts(rt.alloc(), SEVENTEEN).is_err());
+    assert_eq!(rt; read_parts(rt.alloc(), SIXTEEN).err(), None);
+    assert_eq!(rt;
+        read_parts(rt.alloc(), SEVENTEEN).err(),
+        Some(BodyFault::Bad)
+    );
 }
