@@ -3,6 +3,7 @@
 ghost use Rattle.std.specs.Prelude.{◌≡◌, ◌≤◌, true, IfOk, IfSome};
 ghost use Rattle.release_rules.specs.Deciding.{IsAllowed, IsSafely};
 
+use crate::objects::{Object, bytes_of_object};
 use component_package::Bytes;
 use release_judging::{bytes_of, text_of};
 use release_keeper::{Keeper, MemoryKeeper};
@@ -20,7 +21,7 @@ pub const NEW_KEY: &str = "new";
 #[derive(Clone, Copy)]
 pub enum Ask {
     /// An object as a component's next version.
-    Version(&'static str, &'static [u8]),
+    Version(&'static str, Object),
     /// A mote's next release.
     Release(&'static str, Named),
     /// A mote's word that it runs a release.
@@ -59,7 +60,10 @@ pub fn release_command(
 /// The command for what a test asks.
 pub fn command_of(alloc: Global, ask: Ask) -> Result<Command, AllocError> {
     match ask {
-        Ask::Version(name, object) => version_command(alloc, name, bytes_of(alloc, object)?),
+        Ask::Version(name, object) => {
+            let object = bytes_of(alloc, bytes_of_object(object))?;
+            version_command(alloc, name, object)
+        }
         Ask::Release(mote, named) => release_command(alloc, mote, named),
         Ask::Acknowledge(mote, release) => {
             let mote = text_of(alloc, mote)?;

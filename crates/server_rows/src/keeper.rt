@@ -6,7 +6,7 @@ ghost use Rattle.std.specs.Prelude.{IfOk, IfSome};
 ghost use Rattle.release_rows.specs.Change.{IsSound};
 
 use crate::commands::{Ask, command_of, decided};
-use crate::objects::{RADIO, SENDER};
+use crate::objects::Object;
 use component_package::{Bytes, Text};
 use release_keeper::{Keeper, MemoryKeeper};
 use release_rows::{Change, KeyRow, Numbered, NumberedParts, Rows, RowsFault};
@@ -100,7 +100,7 @@ const STAGES: [Stage; 9] = [
     Stage {
         key: "a",
         digest: 1,
-        ask: Ask::Version("radio", RADIO),
+        ask: Ask::Version("radio", Object::Radio),
         looks: &[
             Look::Key("a", Some((1, ANSWER_A))),
             Look::Key("b", None),
@@ -131,7 +131,7 @@ const STAGES: [Stage; 9] = [
     Stage {
         key: "b",
         digest: 2,
-        ask: Ask::Version("sender", SENDER),
+        ask: Ask::Version("sender", Object::Sender),
         looks: &[
             Look::Key("a", Some((1, ANSWER_A))),
             Look::Key("b", Some((2, ANSWER_B))),
@@ -157,7 +157,7 @@ const STAGES: [Stage; 9] = [
     Stage {
         key: "c",
         digest: 3,
-        ask: Ask::Version("radio", RADIO),
+        ask: Ask::Version("radio", Object::Radio),
         looks: &[
             Look::Key("c", Some((3, ANSWER_C))),
             Look::Symbol(b"radio_put", Some(16)),

@@ -4,7 +4,7 @@ ghost use Rattle.std.specs.Prelude.{◌≡◌, true};
 ghost use Rattle.release_rows.specs.Change.{IsPackageOf};
 
 use crate::commands::{Ask, comes_to, command_of, does};
-use crate::objects::{RADIO, SENDER};
+use crate::objects::Object;
 use component_package::{Bytes, Text, read_package};
 use release_judging::bytes_of;
 use release_keeper::MemoryKeeper;
@@ -17,9 +17,9 @@ type Row = (Ask, &'static [i64]);
 
 /// What is done first.
 const DONE: [(&str, Ask); 6] = [
-    ("1", Ask::Version("sender", SENDER)),
-    ("2", Ask::Version("radio", RADIO)),
-    ("3", Ask::Version("other", RADIO)),
+    ("1", Ask::Version("sender", Object::Sender)),
+    ("2", Ask::Version("radio", Object::Radio)),
+    ("3", Ask::Version("other", Object::Radio)),
     ("4", Ask::Release("m1", &[("sender", 1), ("radio", 1)])),
     ("5", Ask::Release("m1", &[("radio", 1)])),
     ("6", Ask::Acknowledge("m1", 2)),
@@ -91,15 +91,29 @@ fn first_wrong(
     Ok(None)
 }
 
+// A function for each table: a test that holds a keeper would carry all of them through its proof.
+
+fn is_done(alloc: Global, keeper: &mut MemoryKeeper) -> Result<bool, RowsFault> {
+    does_all(alloc, keeper, &DONE)
+}
+
+fn wrong_release(alloc: Global, keeper: &mut MemoryKeeper) -> Result<Option<usize>, RowsFault> {
+    first_wrong(alloc, keeper, &RELEASES)
+}
+
+fn wrong_acknowledgement(
+    alloc: Global,
+    keeper: &mut MemoryKeeper,
+) -> Result<Option<usize>, RowsFault> {
+    first_wrong(alloc, keeper, &ACKNOWLEDGEMENTS)
+}
+
 #[test]
 fn refuses_what_is_not_there(rt: HostRuntime) -> Result<(), Fail> {
     let mut keeper = MemoryKeeper::new(rt.alloc(), Vec::new(rt.alloc()));
-    assert!(rt; does_all(rt.alloc(), &mut keeper, &DONE)?);
-    assert_eq!(rt; first_wrong(rt.alloc(), &mut keeper, &RELEASES)?, None);
-    assert_eq!(rt;
-        first_wrong(rt.alloc(), &mut keeper, &ACKNOWLEDGEMENTS)?,
-        None
-    );
+    assert!(rt; is_done(rt.alloc(), &mut keeper)?);
+    assert_eq!(rt; wrong_release(rt.alloc(), &mut keeper)?, None);
+    assert_eq!(rt; wrong_acknowledgement(rt.alloc(), &mut keeper)?, None);
     Ok(())
 }
 
@@ -218,19 +232,19 @@ const NEARLY: Counts = Counts {
 };
 
 const ROOMS: [(Counts, Ask, &[i64]); 14] = [
-    (NEARLY, Ask::Version("new", SENDER), &[201]),
-    (NEARLY, Ask::Version("sender", SENDER), &[201]),
+    (NEARLY, Ask::Version("new", Object::Sender), &[201]),
+    (NEARLY, Ask::Version("sender", Object::Sender), &[201]),
     (NEARLY, Ask::Release("m1", &[("sender", 1)]), &[201]),
     // Components before versions before symbols, and faults of the object before all.
-    (FULL, Ask::Version("new", b""), &[101, 0]),
-    (FULL, Ask::Version("new", SENDER), &[52]),
-    (FULL, Ask::Version("sender", SENDER), &[53]),
+    (FULL, Ask::Version("new", Object::Empty), &[101, 0]),
+    (FULL, Ask::Version("new", Object::Sender), &[52]),
+    (FULL, Ask::Version("sender", Object::Sender), &[53]),
     (
         Counts {
             components: 65_535,
             ..FEW
         },
-        Ask::Version("new", SENDER),
+        Ask::Version("new", Object::Sender),
         &[52],
     ),
     (
@@ -238,7 +252,7 @@ const ROOMS: [(Counts, Ask, &[i64]); 14] = [
             components: 65_535,
             ..FEW
         },
-        Ask::Version("sender", SENDER),
+        Ask::Version("sender", Object::Sender),
         &[201],
     ),
     (
@@ -246,7 +260,7 @@ const ROOMS: [(Counts, Ask, &[i64]); 14] = [
             versions: 65_535,
             ..FEW
         },
-        Ask::Version("sender", SENDER),
+        Ask::Version("sender", Object::Sender),
         &[53],
     ),
     (
@@ -254,7 +268,7 @@ const ROOMS: [(Counts, Ask, &[i64]); 14] = [
             symbols: 65_518,
             ..FEW
         },
-        Ask::Version("sender", SENDER),
+        Ask::Version("sender", Object::Sender),
         &[51],
     ),
     (
@@ -262,7 +276,7 @@ const ROOMS: [(Counts, Ask, &[i64]); 14] = [
             symbols: 65_520,
             ..FEW
         },
-        Ask::Version("sender", RADIO),
+        Ask::Version("sender", Object::Radio),
         &[51],
     ),
     (
@@ -270,7 +284,7 @@ const ROOMS: [(Counts, Ask, &[i64]); 14] = [
             symbols: 65_519,
             ..FEW
         },
-        Ask::Version("sender", RADIO),
+        Ask::Version("sender", Object::Radio),
         &[201],
     ),
     // Parts that aren't there before the room for a release.

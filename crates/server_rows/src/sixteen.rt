@@ -1,7 +1,7 @@
 //! A release of as many components as there can be, decided on and done.
 
 use crate::commands::{Ask, Named, comes_to, command_of, does, release_command, version_command};
-use crate::objects::{RADIO, edited};
+use crate::objects::{Object, bytes_of_object, edited};
 use component_package::Bytes;
 use http_bodies::{BodyFault, read_parts};
 use release_judging::{ImageAnswer, release_image};
@@ -60,7 +60,12 @@ const SEVENTEEN: &[u8] =
 // The command that adds the component of this name: a radio whose code and whose symbol begin with its letter.
 fn component(alloc: Global, name: &str) -> Result<Command, AllocError> {
     let letter = name.as_bytes();
-    let object = edited(alloc, RADIO, 330, &[(52, letter), (87, letter)])?;
+    let object = edited(
+        alloc,
+        bytes_of_object(Object::Radio),
+        330,
+        &[(52, letter), (87, letter)],
+    )?;
     version_command(alloc, name, Bytes::of(object))
 }
 
