@@ -93,8 +93,9 @@ serve() { # DATABASE [CONNECTIONS]
 
 # Ends the server as a power cut would.
 kill_server() {
-  kill -9 "$server" 2>/dev/null
-  wait "$server" 2>/dev/null
+  # Under set -e a script must not end with the status of what it killed.
+  kill -9 "$server" 2>/dev/null || true
+  wait "$server" 2>/dev/null || true
 }
 
 # ---- bytes of our formats (docs/FORMATS.md)
