@@ -155,16 +155,50 @@ fn has_text(alloc: Global, keeper: &mut MemoryKeeper, wanted: &str) -> Result<bo
     }
 }
 
+// A function for each table, and for each command: a test that holds a keeper would carry all of them through its proof.
+
+fn adds_all(alloc: Global, keeper: &mut MemoryKeeper) -> Result<bool, RowsFault> {
+    adds(alloc, keeper, &NAMES)
+}
+
+fn makes_a_release(alloc: Global, keeper: &mut MemoryKeeper) -> Result<bool, RowsFault> {
+    let release = command_of(alloc, Ask::Release("m1", PARTS))?;
+    does(alloc, keeper, "r", &release)
+}
+
+fn is_kept_whole(keeper: &mut MemoryKeeper) -> Result<bool, RowsFault> {
+    is_kept(keeper, &NUMBERS)
+}
+
+fn has_its_image(alloc: Global, keeper: &mut MemoryKeeper) -> Result<bool, RowsFault> {
+    has_image(alloc, keeper, IMAGE)
+}
+
+fn has_its_update(alloc: Global, keeper: &mut MemoryKeeper) -> Result<bool, RowsFault> {
+    has_update(alloc, keeper, &NUMBERS)
+}
+
+fn has_its_text(alloc: Global, keeper: &mut MemoryKeeper) -> Result<bool, RowsFault> {
+    has_text(alloc, keeper, MOTE)
+}
+
+fn is_a_release(alloc: Global, keeper: &mut MemoryKeeper) -> Result<bool, RowsFault> {
+    Ok(adds_all(alloc, keeper)? && makes_a_release(alloc, keeper)? && is_kept_whole(keeper)?)
+}
+
+fn is_served(alloc: Global, keeper: &mut MemoryKeeper) -> Result<bool, RowsFault> {
+    Ok(
+        has_its_image(alloc, keeper)?
+            && has_its_update(alloc, keeper)?
+            && has_its_text(alloc, keeper)?,
+    )
+}
+
 #[test]
 fn sixteen_components_are_a_release(rt: HostRuntime) -> Result<(), Fail> {
     let mut keeper = MemoryKeeper::new(rt.alloc(), Vec::new(rt.alloc()));
-    assert!(rt; adds(rt.alloc(), &mut keeper, &NAMES)?);
-    let release = command_of(rt.alloc(), Ask::Release("m1", PARTS))?;
-    assert!(rt; does(rt.alloc(), &mut keeper, "r", &release)?);
-    assert!(rt; is_kept(&mut keeper, &NUMBERS)?);
-    assert!(rt; has_image(rt.alloc(), &mut keeper, IMAGE)?);
-    assert!(rt; has_update(rt.alloc(), &mut keeper, &NUMBERS)?);
-    assert!(rt; has_text(rt.alloc(), &mut keeper, MOTE)?);
+    assert!(rt; is_a_release(rt.alloc(), &mut keeper)?);
+    assert!(rt; is_served(rt.alloc(), &mut keeper)?);
     Ok(())
 }
 
@@ -199,17 +233,32 @@ fn first_part(
     Ok(None)
 }
 
+fn none_is_a_part(alloc: Global, keeper: &mut MemoryKeeper) -> Result<bool, RowsFault> {
+    Ok(first_part(alloc, keeper, &NAMES, &NO_PARTS)?.is_none())
+}
+
+fn has_no_release(keeper: &mut MemoryKeeper) -> Result<bool, RowsFault> {
+    Ok(keeper.release_count("m1")? == 0)
+}
+
+fn takes_another(alloc: Global, keeper: &mut MemoryKeeper) -> Result<bool, RowsFault> {
+    let release = release_with(alloc, &NAMES, ("p", 1))?;
+    comes_to(alloc, keeper, &release, &[201])
+}
+
+fn others_are_refused(alloc: Global, keeper: &mut MemoryKeeper) -> Result<bool, RowsFault> {
+    Ok(
+        adds_all(alloc, keeper)?
+            && none_is_a_part(alloc, keeper)?
+            && has_no_release(keeper)?
+            && takes_another(alloc, keeper)?,
+    )
+}
+
 #[test]
 fn others_are_none(rt: HostRuntime) -> Result<(), Fail> {
     let mut keeper = MemoryKeeper::new(rt.alloc(), Vec::new(rt.alloc()));
-    assert!(rt; adds(rt.alloc(), &mut keeper, &NAMES)?);
-    assert_eq!(rt;
-        first_part(rt.alloc(), &mut keeper, &NAMES, &NO_PARTS)?,
-        None
-    );
-    assert_eq!(rt; keeper.release_count("m1")?, 0);
-    let release = release_with(rt.alloc(), &NAMES, ("p", 1))?;
-    assert!(rt; comes_to(rt.alloc(), &mut keeper, &release, &[201])?);
+    assert!(rt; others_are_refused(rt.alloc(), &mut keeper)?);
     Ok(())
 }
 
