@@ -3,8 +3,6 @@
 
 mod board;
 mod reads;
-#[cfg(test)]
-mod tests;
 
 pub use board::{CountingBoard, Programs};
 pub use reads::Reads;

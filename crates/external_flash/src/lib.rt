@@ -11,8 +11,6 @@ ghost use Rattle.external_flash.specs.Gates.{gate_page, gate_place, is_open, IsS
 ghost use Rattle.external_flash.specs.Areas.{Differs};
 
 mod reader;
-#[cfg(test)]
-mod tests;
 
 use flash_pages::page::is_same;
 use flash_pages::{Board, Failed};

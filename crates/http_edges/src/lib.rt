@@ -10,8 +10,6 @@ ghost use Rattle.http_edges.specs.Edge.{Rose};
 mod edge;
 mod memory;
 mod plan;
-#[cfg(test)]
-mod tests;
 
 pub use edge::{Failed, Sink, Source, write_all};
 pub use memory::{MemorySink, MemorySource, NoMemory};

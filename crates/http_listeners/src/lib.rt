@@ -5,8 +5,6 @@
 
 mod listener;
 mod memory;
-#[cfg(test)]
-mod tests;
 
 pub use listener::{Conn, Listener};
 pub use memory::MemoryListener;

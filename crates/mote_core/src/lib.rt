@@ -4,8 +4,6 @@
 #![tactic(auto)]
 
 mod command;
-#[cfg(test)]
-mod command_tests;
 mod formatting;
 mod frames;
 mod line;

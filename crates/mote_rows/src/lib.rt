@@ -12,6 +12,8 @@ mod frames;
 #[cfg(test)]
 mod links;
 #[cfg(test)]
+mod memory;
+#[cfg(test)]
 mod sessions;
 #[cfg(test)]
 mod worked;

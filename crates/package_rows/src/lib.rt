@@ -15,6 +15,8 @@ mod packages;
 #[cfg(test)]
 mod parts;
 #[cfg(test)]
+mod patches;
+#[cfg(test)]
 mod plans;
 #[cfg(test)]
 mod sets;

@@ -18,9 +18,6 @@ use std::process::ExitCode;
 use std::{env, io};
 use tcp_connections::TcpConnections;
 
-#[cfg(test)]
-mod tests;
-
 // The status of a server at this address over this database, which is closed at the end.
 fn serve<'a, S: AsStr>(rt: &HostRuntime, address: &str, database: &str, words: &'a [S]) -> u8
     ensures statuses { IsStatus result }

@@ -5,7 +5,5 @@
 
 pub mod law;
 mod serve;
-#[cfg(test)]
-mod tests;
 
 pub use serve::server_main;

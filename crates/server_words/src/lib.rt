@@ -89,6 +89,3 @@ pub fn connections<'a, S: AsStr>(alloc: Global, words: &'a [S]) -> Result<u32, W
     let count = matches.get_one::<u64>("connections").unwrap();
     Ok(count as u32)
 }
-
-#[cfg(test)]
-mod tests;

@@ -1,6 +1,6 @@
 //! Worked rows of the AVR tools' fields, and the ends of each range.
 
-use super::*;
+use avr_reloc::*;
 use std::test::Fail;
 
 /// What becomes of four bytes of an image whose field begins with the first. They are written as one

@@ -1,6 +1,6 @@
 //! What no clause says: that the calls go well where there is memory, and how reads are shown.
 
-use crate::{CountingBoard, Programs, Reads};
+use counting_board::{CountingBoard, Programs, Reads};
 use flash_pages::Board;
 use std::test::Fail;
 

@@ -2,8 +2,8 @@
 ghost use Rattle.std.specs.Prelude.{All, IfOk};
 ghost use Rattle.http_listeners.specs.Conns.{IsFresh};
 
-use crate::{Conn, Listener, MemoryListener};
 use http_edges::{Failed, MemorySink, MemorySource, Sink, Source};
+use http_listeners::{Conn, Listener, MemoryListener};
 use std::alloc::Global;
 use std::test::Fail;
 

@@ -1,7 +1,7 @@
 //! What no clause says: on which page each gate stands, in bytes, and that calls succeed on a board that fails none.
 ghost use Rattle.std.specs.Prelude.{◌<◌};
 
-use crate::{
+use external_flash::{
     Gate, PageReader, close_gate, gate_is_open, open_gate, program_if_different, read_bytes,
 };
 use flash_pages::{BoardPlan, MemoryBoard};

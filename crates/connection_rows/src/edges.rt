@@ -1,5 +1,5 @@
 //! What no clause says: that the ends have the memory that they ask for, and each call on its happy path and as its plan fails it.
-use crate::{Failed, MemorySink, MemorySource, Sink, Source, write_all};
+use http_edges::{Failed, MemorySink, MemorySource, Sink, Source, write_all};
 use std::test::Fail;
 
 #[test]

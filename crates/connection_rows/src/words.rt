@@ -1,4 +1,4 @@
-use crate::{WordsFault, connections};
+use server_words::{WordsFault, connections};
 use std::test::Fail;
 
 #[test]

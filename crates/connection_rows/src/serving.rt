@@ -2,10 +2,10 @@
 ghost use Rattle.std.specs.Prelude.{All, IfOk};
 ghost use Rattle.http_listeners.specs.Conns.{IsFresh};
 
-use crate::server_main;
 use http_edges::{MemorySink, MemorySource};
 use http_listeners::{Conn, MemoryListener};
 use release_keeper::MemoryKeeper;
+use server_loop::server_main;
 use std::alloc::Global;
 use std::test::Fail;
 

@@ -1,7 +1,7 @@
 //! What no clause says: which calls a plan lets fail, what a stop leaves, what fits the rooms, and what a board does with real files.
 ghost use Rattle.std.specs.Prelude.{◌≡◌, ◌<◌};
 
-use crate::{Board, BoardPlan, Failed, FileBoard, MemoryBoard};
+use flash_pages::{Board, BoardPlan, Failed, FileBoard, MemoryBoard};
 use std::alloc::Global;
 use std::fs;
 use std::fs::OpenOptions;

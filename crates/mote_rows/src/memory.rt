@@ -1,8 +1,8 @@
 //! What no clause says: that the commands are done on a board that fails no call, in bytes.
 
-use crate::mote_main;
 use component_package::Text;
 use flash_pages::{BoardPlan, MemoryBoard, NoMemory};
+use mote_core::mote_main;
 use std::alloc::{AllocError, Global};
 use std::test::Fail;
 
