@@ -5,28 +5,36 @@ ghost use Rattle.component_package.specs.packages.Manifest.{IsSlotManifest};
 ghost use Rattle.component_store.specs.Sets.{IsSet};
 ghost use Rattle.symbol_merge.specs.Stored.{IsPlanOf};
 
-use crate::parts::{Part, package, push_entry, short};
+use crate::parts::{ONE_MORE, Part, byte_relocs, full, package, push_entry, short};
 use component_package::{SlotManifest, read_manifest, read_slot_pages};
 use component_store::{StoredSet, open_set, put_piece, slot_for};
 use flash_pages::{Board, BoardPlan, MemoryBoard};
 use layout_plan::Plan;
 use sha2::{Digest, Sha256};
 use std::alloc::{AllocError, Global};
+use std::mem::replace;
 use std::test::Fail;
 use symbol_merge::{MergeFault, merge, plan_of_set};
+
+/// A page of the same byte all over.
+pub(crate) fn page_of(byte: u8) -> [u8; 256] {
+    [byte; 256]
+}
+
+fn falling_page() -> [u8; 256] {
+    let mut page = [0; 256];
+    for at in 0..256usize {
+        page[at] = (255 - at) as u8;
+    }
+    page
+}
 
 /// What the page of the program holds in which power is cut: all the same byte, or falling bytes.
 pub(crate) fn spoilt(fill: u8) -> [u8; 256] {
     match fill {
-        0 => [0xA5; 256],
-        1 => [0; 256],
-        _ => {
-            let mut page = [0; 256];
-            for at in 0..256usize {
-                page[at] = (255 - at) as u8;
-            }
-            page
-        }
+        0 => page_of(0xA5),
+        1 => page_of(0),
+        _ => falling_page(),
     }
 }
 
@@ -49,30 +57,41 @@ fn faults(
     })
 }
 
-/// A board of zeros on which nothing goes wrong, with room for as many programs as any row has.
-pub(crate) fn empty_board(alloc: Global) -> Result<MemoryBoard, Fail> {
-    let plan = faults(alloc, 0, 0, [0; 256])?;
-    let board = MemoryBoard::new(alloc, &[], plan, 2000, 0)?;
+// A board of zeros on which nothing goes wrong, with room for so many programs.
+fn board_with_room(alloc: Global, programs: u32) -> Result<MemoryBoard, Fail> {
+    let plan = faults(alloc, 0, 0, page_of(0))?;
+    let board = MemoryBoard::new(alloc, &[], plan, programs, 0)?;
     Ok(board)
 }
 
+/// A board of zeros on which nothing goes wrong, with room for as many programs as any row has.
+pub(crate) fn empty_board(alloc: Global) -> Result<MemoryBoard, Fail> {
+    board_with_room(alloc, 2000)
+}
+
+// The power is back, and this goes wrong from now on.
+fn restart(alloc: Global, board: &mut MemoryBoard, plan: BoardPlan) -> Result<(), Fail> {
+    let spare = board_with_room(alloc, 0)?;
+    let before = replace(board, spare);
+    *board = before.restart(alloc, &[], plan)?;
+    Ok(())
+}
+
 /// The power is back, and this call will fail, or none where it is 0.
-pub(crate) fn failing(alloc: Global, board: MemoryBoard, fail: u32) -> Result<MemoryBoard, Fail> {
-    let plan = faults(alloc, fail, 0, [0; 256])?;
-    let board = board.restart(alloc, &[], plan)?;
-    Ok(board)
+pub(crate) fn failing(alloc: Global, board: &mut MemoryBoard, fail: u32) -> Result<(), Fail> {
+    let plan = faults(alloc, fail, 0, page_of(0))?;
+    restart(alloc, board, plan)
 }
 
 /// The power is back, and will be cut in this program, which leaves this all over its page.
 pub(crate) fn stopping(
     alloc: Global,
-    board: MemoryBoard,
+    board: &mut MemoryBoard,
     stop_at: u32,
     spoil: [u8; 256],
-) -> Result<MemoryBoard, Fail> {
+) -> Result<(), Fail> {
     let plan = faults(alloc, 0, stop_at, spoil)?;
-    let board = board.restart(alloc, &[], plan)?;
-    Ok(board)
+    restart(alloc, board, plan)
 }
 
 /// Puts a package into slot `k`.
@@ -105,24 +124,72 @@ pub(crate) fn store<B: Board>(
     Ok(())
 }
 
+// Puts components into the first slots, and their entries behind a manifest's bytes.
+fn store_each(
+    alloc: Global,
+    board: &mut MemoryBoard,
+    manifest: &mut Vec<u8>,
+    parts: &[Part<'_>],
+) -> Result<(), AllocError> {
+    let mut k = 0u8;
+    for part in parts {
+        store(alloc, board, manifest, k, part)?;
+        k = k.wrapping_add(1);
+    }
+    Ok(())
+}
+
+// Puts components into the first slots, and gives their manifest in bytes.
+fn store_all(
+    alloc: Global,
+    board: &mut MemoryBoard,
+    parts: &[Part<'_>],
+) -> Result<Vec<u8>, AllocError> {
+    let mut manifest = vec![in alloc; 1, 0, 0, 0, (parts.len() % 256) as u8]?;
+    store_each(alloc, board, &mut manifest, parts)?;
+    Ok(manifest)
+}
+
 /// A board whose first slots hold these components, and its manifest in bytes.
 pub(crate) fn stored(alloc: Global, parts: &[Part<'_>]) -> Result<(MemoryBoard, Vec<u8>), Fail> {
     let mut board = empty_board(alloc)?;
-    let mut manifest = vec![in alloc; 1, 0, 0, 0, (parts.len() % 256) as u8]?;
-    let mut k = 0u8;
-    for part in parts {
-        store(alloc, &mut board, &mut manifest, k, part)?;
-        k = k.wrapping_add(1);
-    }
+    let manifest = store_all(alloc, &mut board, parts)?;
     Ok((board, manifest))
+}
+
+// Merges the symbols of the set of a manifest.
+fn merge_symbols(board: &mut MemoryBoard, manifest: &[u8]) -> Result<(), Fail> {
+    let set = opened(board, manifest)?;
+    let _count = merged(board, &set)??;
+    Ok(())
 }
 
 /// The same board, with the set's symbols merged.
 pub(crate) fn ready(alloc: Global, parts: &[Part<'_>]) -> Result<(MemoryBoard, Vec<u8>), Fail> {
     let (mut board, manifest) = stored(alloc, parts)?;
-    let set = opened(&mut board, manifest.as_slice())?;
-    let _count = merged(&mut board, &set)??;
+    merge_symbols(&mut board, manifest.as_slice())?;
     Ok((board, manifest))
+}
+
+// Components of 1,024 relocations each; those from the ninth on have a single one.
+fn many<'a>(
+    alloc: Global,
+    relocs: &'a [[u8; 8]],
+    components: u8,
+) -> Result<Vec<Part<'a>>, AllocError> {
+    let full = full(relocs);
+    let mut parts = Vec::new(alloc);
+    for k in 0..components {
+        parts.push(if k < 8 { full } else { ONE_MORE })?;
+    }
+    Ok(parts)
+}
+
+/// A board with eight components of 1,024 relocations of single bytes, and ones with a single one behind them, whose symbols are merged.
+pub(crate) fn most(alloc: Global, components: u8) -> Result<(MemoryBoard, Vec<u8>), Fail> {
+    let relocs = byte_relocs(alloc)?;
+    let parts = many(alloc, relocs.as_slice(), components)?;
+    ready(alloc, parts.as_slice())
 }
 
 // The stored release of a formatted board, which has no entries.

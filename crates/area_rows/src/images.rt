@@ -1,9 +1,12 @@
 //! Staged images of worked sets, with areas of their own and with others; stops and failing calls.
 
+ghost use Rattle.std.specs.Prelude.{IfOk};
 ghost use Rattle.component_store.specs.Sets.{IsSet};
 
-use crate::boards::{begins, failing, opened, planned, put_area, ready, spoilt, stopping, stored};
-use crate::parts::{EMPTY, Part, byte_relocs, full};
+use crate::boards::{
+    begins, failing, most, opened, planned, put_area, ready, spoilt, stopping, stored,
+};
+use crate::parts::{CALLEE, CALLER, EMPTY, Part};
 use component_package::areas::{
     IMAGE_PAGES, RELOCATION_PAGES, RELOCATIONS, STAGED, SYMBOL_PAGES, SYMBOLS,
 };
@@ -78,43 +81,106 @@ fn put_zeros<B: Board>(board: &mut B) {
     }
 }
 
-// A jump to itself behind a call of symbol 16, and a return that is symbol 16.
-const CALLER: Part<'static> = Part {
-    code: &[0x0E, 0x94, 0, 0, 0xFF, 0xCF],
-    relocs: &[[0, 0, 0, 18, 16, 0, 0, 0]],
-    ..EMPTY
-};
+// What checking answers with these symbols in their area.
+fn checked_with<B: Board>(
+    board: &mut B,
+    set: &StoredSet,
+    symbols: &[u8],
+) -> Result<Result<(), BuildFault>, Fail>
+    requires { IsSet set.now }
+{
+    put_area(board, SYMBOLS, SYMBOL_PAGES, symbols);
+    checked(board, set)
+}
 
-const CALLEE: Part<'static> = Part {
-    code: &[0x08, 0x95],
-    exports: &[[16, 0, 0, 0, 0, 0]],
-    ..EMPTY
-};
+// Whether the list is built with these bytes and 0xFF behind them.
+fn builds(board: &mut MemoryBoard, set: &StoredSet, bytes: &[u8]) -> Result<bool, Fail>
+    requires { IsSet set.now }
+{
+    let is_built = is_built(board, set)?;
+    Ok(is_built && begins(board.ext_page(50), bytes) && begins(board.ext_page(305), &[]))
+}
+
+// Symbols that are not the set's, what checking answers with them, and the list.
+type Foreign = (&'static [u8], Result<(), BuildFault>, &'static [u8]);
+
+const FOREIGN: [Foreign; 2] = [
+    (&[], Err(BuildFault::Undefined(0, 0, 16)), &[]),
+    (
+        &[16, 0, 1, 0, 8, 0, 0, 0],
+        Ok(()),
+        &[0, 0, 0, 18, 8, 0, 0, 0],
+    ),
+];
+
+// Whether these symbols are checked and listed so.
+fn is_foreign(board: &mut MemoryBoard, set: &StoredSet, row: &Foreign) -> Result<bool, Fail>
+    requires { IsSet set.now }
+{
+    let (symbols, want, list) = *row;
+    if checked_with(board, set, symbols)? != want {
+        return Ok(false);
+    }
+    if want.is_err() {
+        return Ok(true);
+    }
+    builds(board, set, list)
+}
+
+// The first of these that isn't so.
+fn wrong_symbols(
+    board: &mut MemoryBoard,
+    set: &StoredSet,
+    rows: &[Foreign],
+) -> Result<Option<usize>, Fail>
+    requires { IsSet set.now }
+{
+    for (i, row) in rows.iter().enumerate() {
+        if !is_foreign(board, set, row)? {
+            return Ok(Some(i));
+        }
+    }
+    Ok(None)
+}
+
+// A list that is not the set's, and the image.
+type Listed = (&'static [u8], [u8; 8]);
+
+const LISTED: [Listed; 2] = [
+    (
+        &[0, 0, 0, 18, 10, 0, 0, 0],
+        [0x0E, 0x94, 5, 0, 0xFF, 0xCF, 0x08, 0x95],
+    ),
+    // A list that fits nothing, and bytes that are no list: the calls end.
+    (
+        &[255, 255, 255, 18, 1, 0, 0, 0, 0, 0, 0, 200],
+        [0x0E, 0x94, 0, 0, 0xFF, 0xCF, 0x08, 0x95],
+    ),
+];
+
+// The first of these lists with which another image is made.
+fn wrong_list<B: Board>(
+    board: &mut B,
+    set: &StoredSet,
+    rows: &[Listed],
+) -> Result<Option<usize>, Fail>
+    requires { IsSet set.now }
+{
+    for (i, row) in rows.iter().enumerate() {
+        put_list(board, row.0);
+        if !makes(board, set, 0, &row.1)? {
+            return Ok(Some(i));
+        }
+    }
+    Ok(None)
+}
 
 #[test]
 fn areas_that_are_not_the_sets(rt: HostRuntime) -> Result<(), Fail> {
     let (mut board, manifest) = stored(rt.alloc(), &[CALLER, CALLEE])?;
     let set = opened(&mut board, manifest.as_slice())?;
-    put_area(&mut board, SYMBOLS, SYMBOL_PAGES, &[]);
-    let undefined = BuildFault::Undefined(0, 0, 16);
-    assert_eq!(rt; checked(&mut board, &set)?, Err(undefined));
-    put_area(
-        &mut board,
-        SYMBOLS,
-        SYMBOL_PAGES,
-        &[16, 0, 1, 0, 8, 0, 0, 0],
-    );
-    assert_eq!(rt; checked(&mut board, &set)?, Ok(()));
-    assert!(rt; is_built(&mut board, &set)?);
-    assert!(rt; begins(board.ext_page(50), &[0, 0, 0, 18, 8, 0, 0, 0]));
-    assert!(rt; begins(board.ext_page(305), &[]));
-    put_list(&mut board, &[0, 0, 0, 18, 10, 0, 0, 0]);
-    let image = [0x0E, 0x94, 5, 0, 0xFF, 0xCF, 0x08, 0x95];
-    assert!(rt; makes(&mut board, &set, 0, &image)?);
-    // A list that fits nothing, and bytes that are no list: the calls end.
-    put_list(&mut board, &[255, 255, 255, 18, 1, 0, 0, 0, 0, 0, 0, 200]);
-    let plain = [0x0E, 0x94, 0, 0, 0xFF, 0xCF, 0x08, 0x95];
-    assert!(rt; makes(&mut board, &set, 0, &plain)?);
+    assert_eq!(rt; wrong_symbols(&mut board, &set, &FOREIGN)?, None);
+    assert_eq!(rt; wrong_list(&mut board, &set, &LISTED)?, None);
     Ok(())
 }
 
@@ -148,25 +214,75 @@ fn eight(board: &MemoryBoard, place: u16) -> [u8; 8] {
     bytes
 }
 
-// Whether staging ends where power is cut in this program, and whether it then succeeds, and once more with no program.
-fn stopped(
+// Whether the image can be staged, and once more with no program.
+fn is_staged_once(board: &mut MemoryBoard, set: &StoredSet) -> Result<bool, Fail>
+    requires { IsSet set.now }
+{
+    let works = is_staged(board, set)?;
+    let written = board.program_count();
+    let again = is_staged(board, set)?;
+    Ok(works && again && board.program_count() == written)
+}
+
+// The power is back, nothing goes wrong, and the staged pages hold zeros.
+fn cleared(alloc: Global, board: &mut MemoryBoard) -> Result<(), Fail> {
+    failing(alloc, board, 0)?;
+    put_zeros(board);
+    Ok(())
+}
+
+// Whether staging ends where power is cut in this program, and then succeeds, and once more with no program.
+fn is_mended(
     alloc: Global,
-    board: MemoryBoard,
+    board: &mut MemoryBoard,
     set: &StoredSet,
     stop_at: u32,
     fill: u8,
-) -> Result<(MemoryBoard, bool, bool), Fail>
+) -> Result<bool, Fail>
     requires { IsSet set.now }
 {
-    let mut board = failing(alloc, board, 0)?;
-    put_zeros(&mut board);
-    let mut board = stopping(alloc, board, stop_at, spoilt(fill))?;
-    let stops = !is_staged(&mut board, set)?;
-    let mut board = failing(alloc, board, 0)?;
-    let works = is_staged(&mut board, set)?;
-    let written = board.program_count();
-    let again = is_staged(&mut board, set)? && board.program_count() == written;
-    Ok((board, stops, works && again))
+    cleared(alloc, board)?;
+    stopping(alloc, board, stop_at, spoilt(fill))?;
+    if is_staged(board, set)? {
+        return Ok(false);
+    }
+    failing(alloc, board, 0)?;
+    is_staged_once(board, set)
+}
+
+// The first of these programs for which that isn't so.
+fn wrong_stop(
+    alloc: Global,
+    board: &mut MemoryBoard,
+    set: &StoredSet,
+    fill: u8,
+    stops: &[u32],
+) -> Result<Option<u32>, Fail>
+    requires { IsSet set.now }
+{
+    for stop_at in stops {
+        if !is_mended(alloc, board, set, *stop_at, fill)? {
+            return Ok(Some(*stop_at));
+        }
+    }
+    Ok(None)
+}
+
+// The same with each fill, which stands before the program.
+fn wrong_fill(
+    alloc: Global,
+    board: &mut MemoryBoard,
+    set: &StoredSet,
+    stops: &[u32],
+) -> Result<Option<(u8, u32)>, Fail>
+    requires { IsSet set.now }
+{
+    for fill in 0..3u8 {
+        if let Some(stop_at) = wrong_stop(alloc, board, set, fill, stops)? {
+            return Ok(Some((fill, stop_at)));
+        }
+    }
+    Ok(None)
 }
 
 // A place of the staged image, the eight bytes before it, and the eight from it on.
@@ -208,21 +324,24 @@ fn wrong_page(board: &mut MemoryBoard, set: &StoredSet) -> Result<Option<u16>, F
     Ok(None)
 }
 
+// The set of a manifest, whose relocations are checked and whose list is built.
+fn listed<B: Board>(board: &mut B, manifest: &[u8]) -> Result<StoredSet, Fail>
+    ensures { IfOk result IsSet }
+{
+    let set = opened(board, manifest)?;
+    if checked(board, &set)? != Ok(()) || !is_built(board, &set)? {
+        return Err(Fail::new("no list"));
+    }
+    Ok(set)
+}
+
 #[test]
 fn fields_over_the_end_of_a_page(rt: HostRuntime) -> Result<(), Fail> {
     let (mut board, manifest) = ready(rt.alloc(), &[CALLER, EDGES, CALLEE])?;
-    let set = opened(&mut board, manifest.as_slice())?;
-    assert_eq!(rt; checked(&mut board, &set)?, Ok(()));
-    assert!(rt; is_built(&mut board, &set)?);
+    let set = listed(&mut board, manifest.as_slice())?;
     // Stopped at some programs with three fills, and staged again from what each left.
-    for fill in 0..3u8 {
-        for stop_at in [1, 2, 5, 240, 480] {
-            let (next, stops, works) = stopped(rt.alloc(), board, &set, stop_at, fill)?;
-            board = next;
-            assert!(rt; stops, "{stop_at}");
-            assert!(rt; works, "{stop_at}");
-        }
-    }
+    let wrong = wrong_fill(rt.alloc(), &mut board, &set, &[1, 2, 5, 240, 480])?;
+    assert_eq!(rt; wrong, None);
     assert_eq!(rt; wrong_place(&board, &AROUND), None);
     assert_eq!(rt; wrong_page(&mut board, &set)?, None);
     Ok(())
@@ -263,21 +382,60 @@ fn has_call(board: &mut MemoryBoard, set: &StoredSet, place: u16, page: u16) -> 
     Ok(made == Some(want) && *board.ext_page(STAGED + page) == want)
 }
 
-// A call by a list that isn't the set's, at each place where a page's end splits it, and on both sides. Both pages have their part, whether
-// one is made alone or all are staged.
+// Whether all pages are made and staged so where a list that isn't the set's has a call at this place.
+fn is_called(
+    alloc: Global,
+    board: &mut MemoryBoard,
+    set: &StoredSet,
+    place: u16,
+) -> Result<bool, Fail>
+    requires { IsSet set.now }
+{
+    let [low, high] = place.to_le_bytes();
+    put_list(board, &[low, high, 0, 18, 0x34, 0x12, 0, 0]);
+    failing(alloc, board, 0)?;
+    if !is_staged(board, set)? {
+        return Ok(false);
+    }
+    has_calls(board, set, place)
+}
+
+fn has_calls(board: &mut MemoryBoard, set: &StoredSet, place: u16) -> Result<bool, Fail>
+    requires { IsSet set.now }
+{
+    for page in 0..3u16 {
+        if !has_call(board, set, place, page)? {
+            return Ok(false);
+        }
+    }
+    Ok(true)
+}
+
+// The first of these places for which that isn't so.
+fn wrong_call(
+    alloc: Global,
+    board: &mut MemoryBoard,
+    set: &StoredSet,
+    places: &[u16],
+) -> Result<Option<u16>, Fail>
+    requires { IsSet set.now }
+{
+    for place in places {
+        if !is_called(alloc, board, set, *place)? {
+            return Ok(Some(*place));
+        }
+    }
+    Ok(None)
+}
+
+// At each place where a page's end splits the call, and on both sides. Both pages have their part, whether one is made alone or all are
+// staged.
 #[test]
 fn a_call_over_the_end_of_a_page(rt: HostRuntime) -> Result<(), Fail> {
     let (mut board, manifest) = stored(rt.alloc(), &[BLANK])?;
     let set = opened(&mut board, manifest.as_slice())?;
-    for place in [252, 253, 254, 255, 256u16] {
-        let [low, high] = place.to_le_bytes();
-        put_list(&mut board, &[low, high, 0, 18, 0x34, 0x12, 0, 0]);
-        board = failing(rt.alloc(), board, 0)?;
-        assert!(rt; is_staged(&mut board, &set)?, "{place}");
-        for page in 0..3u16 {
-            assert!(rt; has_call(&mut board, &set, place, page)?, "{place} {page}");
-        }
-    }
+    let wrong = wrong_call(rt.alloc(), &mut board, &set, &[252, 253, 254, 255, 256])?;
+    assert_eq!(rt; wrong, None);
     Ok(())
 }
 
@@ -295,17 +453,6 @@ fn page_of_bytes() -> [u8; 256] {
     bytes
 }
 
-// Eight components of 1,024 relocations of single bytes.
-fn most(alloc: Global) -> Result<(MemoryBoard, Vec<u8>), Fail> {
-    let relocs = byte_relocs(alloc)?;
-    let full = full(relocs.as_slice());
-    let mut parts = Vec::new(alloc);
-    for _ in 0..8u8 {
-        parts.push(full)?;
-    }
-    ready(alloc, parts.as_slice())
-}
-
 // The first staged page that isn't this one, or 0xFF behind so many of it.
 fn wrong_staged(board: &MemoryBoard, full: &[u8; 256], count: u16) -> Option<u16> {
     for page in 0..IMAGE_PAGES {
@@ -317,71 +464,105 @@ fn wrong_staged(board: &MemoryBoard, full: &[u8; 256], count: u16) -> Option<u16
     None
 }
 
+// Whether the image is staged as 32 such pages, and the last of them is made so.
+fn is_full(board: &mut MemoryBoard, set: &StoredSet, full: &[u8; 256]) -> Result<bool, Fail>
+    requires { IsSet set.now }
+{
+    if !is_staged(board, set)? || wrong_staged(board, full, 32).is_some() {
+        return Ok(false);
+    }
+    makes(board, set, 31, full)
+}
+
 #[test]
 fn the_most_relocations(rt: HostRuntime) -> Result<(), Fail> {
-    let (mut board, manifest) = most(rt.alloc())?;
-    let set = opened(&mut board, manifest.as_slice())?;
-    assert!(rt; is_built(&mut board, &set)?);
-    assert!(rt; is_staged(&mut board, &set)?);
-    let full = page_of_bytes();
-    assert_eq!(rt; wrong_staged(&board, &full, 32), None);
-    assert!(rt; makes(&mut board, &set, 31, &full)?);
+    let (mut board, manifest) = most(rt.alloc(), 8)?;
+    let set = listed(&mut board, manifest.as_slice())?;
+    assert!(rt; is_full(&mut board, &set, &page_of_bytes())?);
     Ok(())
 }
 
-// Whether staging fails where this call of the board does, and whether it then succeeds.
-fn failing_stage(
+// Whether staging fails where this call of the board does, as it should, and then succeeds.
+fn is_staged_again(
     alloc: Global,
-    board: MemoryBoard,
+    board: &mut MemoryBoard,
     set: &StoredSet,
     fail: u32,
-) -> Result<(MemoryBoard, bool, bool), Fail>
+    should_fail: bool,
+) -> Result<bool, Fail>
     requires { IsSet set.now }
 {
-    let mut board = failing(alloc, board, 0)?;
-    put_zeros(&mut board);
-    let mut board = failing(alloc, board, fail)?;
-    let fails = !is_staged(&mut board, set)?;
-    let works = is_staged(&mut board, set)?;
-    Ok((board, fails, works))
+    cleared(alloc, board)?;
+    failing(alloc, board, fail)?;
+    let works = is_staged(board, set)?;
+    let works_again = is_staged(board, set)?;
+    Ok(works != should_fail && works_again)
 }
 
-// Whether the first page is made where this call of the board fails, and whether it is made right after that.
-fn failing_page(
+// The first of these calls for which that isn't so. For the first page two packages and a page of the list are read; then it and each other
+// page are read and programmed. There are 963 calls.
+fn wrong_stage(
     alloc: Global,
-    board: MemoryBoard,
+    board: &mut MemoryBoard,
     set: &StoredSet,
-    fail: u32,
-) -> Result<(MemoryBoard, bool, bool), Fail>
+    calls: &[u32],
+) -> Result<Option<u32>, Fail>
     requires { IsSet set.now }
 {
-    let mut board = failing(alloc, board, fail)?;
-    let is_made = made_page(&mut board, set, 0)?.is_some();
-    let image = [0x0E, 0x94, 3, 0, 0xFF, 0xCF, 0x08, 0x95];
-    let works = makes(&mut board, set, 0, &image)?;
-    Ok((board, is_made, works))
+    for fail in calls {
+        if !is_staged_again(alloc, board, set, *fail, *fail <= 963)? {
+            return Ok(Some(*fail));
+        }
+    }
+    Ok(None)
 }
+
+// Whether the first page isn't made where this call of the board fails, as it should, and is made right after that.
+fn is_made_again(
+    alloc: Global,
+    board: &mut MemoryBoard,
+    set: &StoredSet,
+    fail: u32,
+    should_fail: bool,
+) -> Result<bool, Fail>
+    requires { IsSet set.now }
+{
+    failing(alloc, board, fail)?;
+    let is_made = made_page(board, set, 0)?.is_some();
+    let image = [0x0E, 0x94, 3, 0, 0xFF, 0xCF, 0x08, 0x95];
+    let works = makes(board, set, 0, &image)?;
+    Ok(is_made != should_fail && works)
+}
+
+// The first of these calls for which that isn't so. The first entry is found in nine pages of the list.
+fn wrong_making(
+    alloc: Global,
+    board: &mut MemoryBoard,
+    set: &StoredSet,
+    calls: &[u32],
+) -> Result<Option<u32>, Fail>
+    requires { IsSet set.now }
+{
+    for fail in calls {
+        if !is_made_again(alloc, board, set, *fail, *fail <= 12)? {
+            return Ok(Some(*fail));
+        }
+    }
+    Ok(None)
+}
+
+const STAGE_CALLS: [u32; 11] = [1, 2, 3, 4, 5, 6, 7, 500, 962, 963, 2000];
 
 // Each kind of call of the board fails once, and what was asked answers so.
 #[test]
 fn failing_calls(rt: HostRuntime) -> Result<(), Fail> {
     let (mut board, manifest) = ready(rt.alloc(), &[CALLER, CALLEE])?;
-    let set = opened(&mut board, manifest.as_slice())?;
-    assert!(rt; is_built(&mut board, &set)?);
-    // For the first page two packages and a page of the list are read; then it and each other page are read and programmed. There are 963
-    // calls.
-    for fail in [1, 2, 3, 4, 5, 6, 7, 500, 962, 963, 2000] {
-        let (next, fails, works) = failing_stage(rt.alloc(), board, &set, fail)?;
-        board = next;
-        assert_eq!(rt; fails, fail <= 963, "{fail}");
-        assert!(rt; works, "{fail}");
-    }
-    // For a page alone, the first entry is found in nine pages of the list.
-    for fail in [1, 9, 10, 11, 12, 100] {
-        let (next, is_made, works) = failing_page(rt.alloc(), board, &set, fail)?;
-        board = next;
-        assert_eq!(rt; is_made, 12 < fail, "{fail}");
-        assert!(rt; works, "{fail}");
-    }
+    let set = listed(&mut board, manifest.as_slice())?;
+    assert_eq!(rt;
+        wrong_stage(rt.alloc(), &mut board, &set, &STAGE_CALLS)?,
+        None
+    );
+    let wrong = wrong_making(rt.alloc(), &mut board, &set, &[1, 9, 10, 11, 12, 100])?;
+    assert_eq!(rt; wrong, None);
     Ok(())
 }

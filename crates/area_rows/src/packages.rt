@@ -1,11 +1,11 @@
 //! Each call of the board failing once, a stop at each program, and what is read of a package whose records lie over ends of pages.
 
-ghost use Rattle.std.specs.Prelude.{◌≡◌};
+ghost use Rattle.std.specs.Prelude.{◌≡◌, IfOk};
 ghost use Rattle.component_package.specs.packages.Manifest.{IsSlotManifest};
 ghost use Rattle.component_store.specs.Sets.{IsSet, length_of_part};
 
 use crate::boards::{empty_board, failing, found, release, spoilt, stopping};
-use crate::parts::{CALLER, push_entry, push_number};
+use crate::parts::{CALLER_PACKAGE, push_entry, push_number};
 use avr_reloc::RelocType;
 use component_package::{Export, Header, Place, Reloc, SlotManifest};
 use component_store::{
@@ -78,30 +78,40 @@ fn push_reloc(into: &mut Vec<u8>, reloc: &Reloc) -> Result<(), AllocError> {
     Ok(())
 }
 
+fn push_content(into: &mut Vec<u8>) -> Result<(), AllocError> {
+    into.extend_from_slice(&[0; 14])?;
+    for at in 0..476u32 {
+        into.push(byte_of(false, at))?;
+    }
+    for at in 0..10u32 {
+        into.push(byte_of(true, at))?;
+    }
+    Ok(())
+}
+
+fn push_records(into: &mut Vec<u8>) -> Result<(), AllocError> {
+    for i in 0..44u8 {
+        push_export(into, &export_of(i))?;
+    }
+    for i in 0..32u8 {
+        push_reloc(into, &reloc_of(i))?;
+    }
+    Ok(())
+}
+
 fn long_package(alloc: Global) -> Result<Vec<u8>, AllocError> {
     let mut bytes = vec![in alloc;
         0x46, 0x43, 0x50, 0x31, 3, 0, 1, 0, 0xDC, 1, 10, 0, 4, 0, 44, 0, 32, 0,
     ]?;
-    bytes.extend_from_slice(&[0; 14])?;
-    for at in 0..476u32 {
-        bytes.push(byte_of(false, at))?;
-    }
-    for at in 0..10u32 {
-        bytes.push(byte_of(true, at))?;
-    }
-    for i in 0..44u8 {
-        push_export(&mut bytes, &export_of(i))?;
-    }
-    for i in 0..32u8 {
-        push_reloc(&mut bytes, &reloc_of(i))?;
-    }
+    push_content(&mut bytes)?;
+    push_records(&mut bytes)?;
     Ok(bytes)
 }
 
 // The manifest of the caller and of component 3.
 fn manifest(alloc: Global, long: &[u8]) -> Result<Vec<u8>, AllocError> {
     let mut bytes = vec![in alloc; 1, 0, 0, 0, 2]?;
-    push_entry(&mut bytes, 1, 46, &Sha256::digest(&CALLER))?;
+    push_entry(&mut bytes, 1, 46, &Sha256::digest(&CALLER_PACKAGE))?;
     push_entry(&mut bytes, 3, SIZE, &Sha256::digest(long))?;
     Ok(bytes)
 }
@@ -129,7 +139,7 @@ fn put_pages<B: Board>(board: &mut B, long: &[u8]) -> Result<(), StoreFault> {
 // A board with the caller in slot 0.
 fn with_caller(alloc: Global) -> Result<MemoryBoard, Fail> {
     let mut board = empty_board(alloc)?;
-    let _put = put_piece(&mut board, 0, 46, 0, &CALLER);
+    let _put = put_piece(&mut board, 0, 46, 0, &CALLER_PACKAGE);
     Ok(board)
 }
 
@@ -146,21 +156,23 @@ struct PutAgain {
 
 fn put_again(
     alloc: Global,
-    mut board: MemoryBoard,
+    board: &mut MemoryBoard,
     release: &SlotManifest,
     long: &[u8],
 ) -> Result<PutAgain, Fail>
     requires { IsSlotManifest release.now }
 {
-    let first = put_pages(&mut board, long);
-    let mut board = failing(alloc, board, 0)?;
-    let found = open_set(&mut board, release).err();
-    let _second = put_pages(&mut board, long);
+    let first = put_pages(board, long);
+    failing(alloc, board, 0)?;
+    let found = open_set(board, release).err();
+    let _second = put_pages(board, long);
+    let programs = board.program_count();
+    let opens = open_set(board, release).is_ok();
     Ok(PutAgain {
         first,
         found,
-        programs: board.program_count(),
-        opens: open_set(&mut board, release).is_ok(),
+        programs,
+        opens,
     })
 }
 
@@ -193,8 +205,9 @@ fn put_after_a_cut(
 ) -> Result<PutAgain, Fail>
     requires { IsSlotManifest release.now }
 {
-    let board = stopping(alloc, with_caller(alloc)?, stop_at, spoilt(fill))?;
-    put_again(alloc, board, release, long)
+    let mut board = with_caller(alloc)?;
+    stopping(alloc, &mut board, stop_at, spoilt(fill))?;
+    put_again(alloc, &mut board, release, long)
 }
 
 // The same where this call fails.
@@ -206,26 +219,66 @@ fn put_after_a_fault(
 ) -> Result<PutAgain, Fail>
     requires { IsSlotManifest release.now }
 {
-    let board = failing(alloc, with_caller(alloc)?, fails)?;
-    put_again(alloc, board, release, long)
+    let mut board = with_caller(alloc)?;
+    failing(alloc, &mut board, fails)?;
+    put_again(alloc, &mut board, release, long)
+}
+
+// The first program for which that isn't so with this fill. The pages before that of the stop are kept, whatever it left.
+fn wrong_stop(
+    alloc: Global,
+    release: &SlotManifest,
+    long: &[u8],
+    fill: u8,
+) -> Result<Option<u32>, Fail>
+    requires { IsSlotManifest release.now }
+{
+    for stop_at in 1..7u32 {
+        if put_after_a_cut(alloc, release, long, stop_at, fill)? != mended(6 - stop_at) {
+            return Ok(Some(stop_at));
+        }
+    }
+    Ok(None)
+}
+
+// The same with each fill, which stands before the program.
+fn wrong_fill(alloc: Global, release: &SlotManifest, long: &[u8]) -> Result<Option<(u8, u32)>, Fail>
+    requires { IsSlotManifest release.now }
+{
+    for fill in 0..3u8 {
+        if let Some(stop_at) = wrong_stop(alloc, release, long, fill)? {
+            return Ok(Some((fill, stop_at)));
+        }
+    }
+    Ok(None)
+}
+
+// The first call of the board for which that isn't so. Each page takes a read and a program.
+fn wrong_call(alloc: Global, release: &SlotManifest, long: &[u8]) -> Result<Option<u32>, Fail>
+    requires { IsSlotManifest release.now }
+{
+    for fails in 1..12u32 {
+        if put_after_a_fault(alloc, release, long, fails)? != mended(5 - (fails - 1) / 2) {
+            return Ok(Some(fails));
+        }
+    }
+    Ok(None)
+}
+
+// The release of the caller and of component 3.
+fn long_release(alloc: Global, long: &[u8]) -> Result<SlotManifest, Fail>
+    ensures { IfOk result IsSlotManifest }
+{
+    let manifest = manifest(alloc, long)?;
+    release(manifest.as_slice())
 }
 
 #[test]
 fn pages_are_put_again_after_a_fault(rt: HostRuntime) -> Result<(), Fail> {
     let long = long_package(rt.alloc())?;
-    let release = release(manifest(rt.alloc(), long.as_slice())?.as_slice())?;
-    // The pages before that of the stop are kept, whatever it left.
-    for fill in 0..3u8 {
-        for stop_at in 1..7u32 {
-            let again = put_after_a_cut(rt.alloc(), &release, long.as_slice(), stop_at, fill)?;
-            assert_eq!(rt; again, mended(6 - stop_at), "{stop_at} {fill}");
-        }
-    }
-    // Each page takes a read and a program.
-    for fails in 1..12u32 {
-        let again = put_after_a_fault(rt.alloc(), &release, long.as_slice(), fails)?;
-        assert_eq!(rt; again, mended(5 - (fails - 1) / 2), "{fails}");
-    }
+    let release = long_release(rt.alloc(), long.as_slice())?;
+    assert_eq!(rt; wrong_fill(rt.alloc(), &release, long.as_slice())?, None);
+    assert_eq!(rt; wrong_call(rt.alloc(), &release, long.as_slice())?, None);
     Ok(())
 }
 
@@ -419,48 +472,74 @@ fn ask<B: Board>(
 // A call, how often it calls the board, and whether there is what it asks for.
 type Row = (Call, u32, bool);
 
-// Which call of the board was to fail when the row's call answered otherwise, if any. Each call of the board fails once; asked again, the
-// row's call answers as it does where none fails.
-fn wrong_fault(
-    alloc: Global,
-    board: MemoryBoard,
+// Whether the row's call fails where this call of the board does, and is answered as it should be when it is asked again. There is no such
+// call of the board behind the last.
+fn is_asked_again(
+    board: &mut MemoryBoard,
     release: &SlotManifest,
     set: &StoredSet,
     long: &[u8],
     row: Row,
-) -> Result<(MemoryBoard, Option<u32>), Fail>
+    is_last: bool,
+) -> bool
     requires release { IsSlotManifest release.now }
     requires set { IsSet set.now }
 {
-    let (call, calls, there) = row;
-    let mut board = board;
+    let (call, _, there) = row;
+    if !is_last && ask(board, release, set, long, call).is_ok() {
+        return false;
+    }
+    ask(board, release, set, long, call) == Ok(there)
+}
+
+// Which call of the board was to fail when the row's call answered otherwise, if any. Each call of the board fails once.
+fn wrong_fault(
+    alloc: Global,
+    board: &mut MemoryBoard,
+    release: &SlotManifest,
+    set: &StoredSet,
+    long: &[u8],
+    row: Row,
+) -> Result<Option<u32>, Fail>
+    requires release { IsSlotManifest release.now }
+    requires set { IsSet set.now }
+{
+    let calls = row.1;
     for fails in 1..calls.saturating_add(2) {
-        board = failing(alloc, board, fails)?;
-        if fails <= calls && ask(&mut board, release, set, long, call).is_ok() {
-            return Ok((board, Some(fails)));
-        }
-        if ask(&mut board, release, set, long, call) != Ok(there) {
-            return Ok((board, Some(fails)));
+        failing(alloc, board, fails)?;
+        if !is_asked_again(board, release, set, long, row, calls < fails) {
+            return Ok(Some(fails));
         }
     }
-    Ok((board, None))
+    Ok(None)
 }
 
 // The first row whose call answers otherwise, and which call of the board was to fail then.
-fn first_wrong(alloc: Global, rows: &[Row]) -> Result<Option<(Call, u32)>, Fail> {
-    let long = long_package(alloc)?;
-    let release = release(manifest(alloc, long.as_slice())?.as_slice())?;
-    let mut board = with_caller(alloc)?;
-    let _put = put_pages(&mut board, long.as_slice());
-    let set = found(&mut board, &release)?;
+fn wrong_row(
+    alloc: Global,
+    board: &mut MemoryBoard,
+    release: &SlotManifest,
+    long: &[u8],
+    rows: &[Row],
+) -> Result<Option<(Call, u32)>, Fail>
+    requires release { IsSlotManifest release.now }
+{
+    let set = found(board, release)?;
     for row in rows {
-        let (next, wrong) = wrong_fault(alloc, board, &release, &set, long.as_slice(), *row)?;
-        board = next;
-        if let Some(fails) = wrong {
+        if let Some(fails) = wrong_fault(alloc, board, release, &set, long, *row)? {
             return Ok(Some((row.0, fails)));
         }
     }
     Ok(None)
+}
+
+// The same on a board that holds the caller and component 3.
+fn first_wrong(alloc: Global, rows: &[Row]) -> Result<Option<(Call, u32)>, Fail> {
+    let long = long_package(alloc)?;
+    let release = long_release(alloc, long.as_slice())?;
+    let mut board = with_caller(alloc)?;
+    let _put = put_pages(&mut board, long.as_slice());
+    wrong_row(alloc, &mut board, &release, long.as_slice(), rows)
 }
 
 const CHECKS: [Row; 5] = [

@@ -24,14 +24,34 @@ pub(crate) const EMPTY: Part<'static> = Part {
     relocs: &[],
 };
 
-/// A jump to itself behind a call of symbol 16: component 1, version 1.
-pub(crate) const CALLER: [u8; 46] = [
+/// A jump to itself behind a call of symbol 16, and a return that is symbol 16.
+pub(crate) const CALLER: Part<'static> = Part {
+    code: &[0x0E, 0x94, 0, 0, 0xFF, 0xCF],
+    relocs: &[[0, 0, 0, 18, 16, 0, 0, 0]],
+    ..EMPTY
+};
+
+pub(crate) const CALLEE: Part<'static> = Part {
+    code: &[0x08, 0x95],
+    exports: &[[16, 0, 0, 0, 0, 0]],
+    ..EMPTY
+};
+
+/// A component with a single relocation of one byte.
+pub(crate) const ONE_MORE: Part<'static> = Part {
+    zeros: 2,
+    relocs: &[[0, 0, 0, 26, 10, 0, 0, 0]],
+    ..EMPTY
+};
+
+/// The package of the caller as component 1, version 1.
+pub(crate) const CALLER_PACKAGE: [u8; 46] = [
     0x46, 0x43, 0x50, 0x31, 1, 0, 1, 0, 6, 0, 0, 0, 0, 0, 0, 0, 1, 0, 0, 0, 0, 0, 0, 0, 0, 0, 0, 0,
     0, 0, 0, 0, 0x0E, 0x94, 0, 0, 0xFF, 0xCF, 0, 0, 0, 0x12, 0x10, 0, 0, 0,
 ];
 
-/// A return that is symbol 16: component 2, version 1.
-pub(crate) const CALLEE: [u8; 40] = [
+/// The package of the callee as component 2, version 1.
+pub(crate) const CALLEE_PACKAGE: [u8; 40] = [
     0x46, 0x43, 0x50, 0x31, 2, 0, 1, 0, 2, 0, 0, 0, 0, 0, 1, 0, 0, 0, 0, 0, 0, 0, 0, 0, 0, 0, 0, 0,
     0, 0, 0, 0, 0x08, 0x95, 0x10, 0, 0, 0, 0, 0,
 ];
@@ -47,28 +67,44 @@ pub(crate) fn short(length: usize) -> u16 {
     if length < 65536 { length as u16 } else { 0 }
 }
 
-/// The package of component `number`.
-pub(crate) fn package(alloc: Global, number: u16, part: &Part<'_>) -> Result<Vec<u8>, AllocError> {
-    let mut bytes = Vec::from_array(alloc, *b"FCP1")?;
+// The header of a package behind its first four bytes.
+fn push_header(into: &mut Vec<u8>, number: u16, part: &Part<'_>) -> Result<(), AllocError> {
     let code = short(part.code.len()).wrapping_add(part.zeros);
     let init = short(part.init.len());
     let exports = short(part.exports.len());
     let relocs = short(part.relocs.len());
     for n in [number, 1, code, init, part.bss, exports, relocs] {
-        push_number(&mut bytes, n)?;
+        push_number(into, n)?;
     }
-    bytes.extend_from_slice(&[0; 14])?;
-    bytes.extend_from_slice(part.code)?;
+    into.extend_from_slice(&[0; 14])?;
+    Ok(())
+}
+
+fn push_content(into: &mut Vec<u8>, part: &Part<'_>) -> Result<(), AllocError> {
+    into.extend_from_slice(part.code)?;
     for _ in 0..part.zeros {
-        bytes.push(0)?;
+        into.push(0)?;
     }
-    bytes.extend_from_slice(part.init)?;
+    into.extend_from_slice(part.init)?;
+    Ok(())
+}
+
+fn push_records(into: &mut Vec<u8>, part: &Part<'_>) -> Result<(), AllocError> {
     for export in part.exports {
-        bytes.extend_from_slice(export)?;
+        into.extend_from_slice(export)?;
     }
     for reloc in part.relocs {
-        bytes.extend_from_slice(reloc)?;
+        into.extend_from_slice(reloc)?;
     }
+    Ok(())
+}
+
+/// The package of component `number`.
+pub(crate) fn package(alloc: Global, number: u16, part: &Part<'_>) -> Result<Vec<u8>, AllocError> {
+    let mut bytes = Vec::from_array(alloc, *b"FCP1")?;
+    push_header(&mut bytes, number, part)?;
+    push_content(&mut bytes, part)?;
+    push_records(&mut bytes, part)?;
     Ok(bytes)
 }
 

@@ -3,16 +3,16 @@
 ghost use Rattle.component_store.specs.Sets.{IsSet};
 
 use crate::boards::{
-    empty_board, failing, opened, planned, put_area, put_page, ready, record_in, spoilt, stopping,
-    stored,
+    empty_board, failing, most, opened, planned, put_area, put_page, ready, record_in, spoilt,
+    stopping, stored,
 };
-use crate::parts::{EMPTY, Part, byte_relocs, full};
+use crate::parts::{EMPTY, Part};
 use avr_reloc::{Fixup, RangeFault, RelocType};
 use component_package::areas::{RELOCATION_PAGES, RELOCATIONS, SYMBOL_PAGES, SYMBOLS};
 use component_store::StoredSet;
 use flash_pages::{Board, Failed, MemoryBoard};
 use reloc_table::{BuildFault, build, check_relocs, count_relocs, entry_at, first_at};
-use std::alloc::{AllocError, Global};
+use std::alloc::Global;
 use std::test::Fail;
 
 // What counting, checking and building answer one after another: the first fault.
@@ -178,15 +178,20 @@ fn is_listed(board: &mut MemoryBoard, manifest: &[u8], row: &Row<'_>) -> Result<
         return Ok(true);
     }
     let programs = board.program_count();
-    let is_again = answer(board, manifest)?.is_ok() && board.program_count() == programs;
-    Ok(is_again && has_list(board, row.list))
+    let again = answer(board, manifest)?;
+    Ok(again.is_ok() && board.program_count() == programs && has_list(board, row.list))
+}
+
+// The same of a board with the row's parts.
+fn is_right(alloc: Global, row: &Row<'_>) -> Result<bool, Fail> {
+    let (mut board, manifest) = ready(alloc, row.parts)?;
+    is_listed(&mut board, manifest.as_slice(), row)
 }
 
 // The first row that isn't so.
 fn first_wrong(alloc: Global, rows: &[Row<'_>]) -> Result<Option<usize>, Fail> {
     for (i, row) in rows.iter().enumerate() {
-        let (mut board, manifest) = ready(alloc, row.parts)?;
-        if !is_listed(&mut board, manifest.as_slice(), row)? {
+        if !is_right(alloc, row)? {
             return Ok(Some(i));
         }
     }
@@ -272,6 +277,16 @@ fn wrong_page<B: Board>(board: &mut B, rows: &[(u16, u16)]) -> Option<u16> {
     None
 }
 
+// The first of these numbers with which there is an entry.
+fn extra_entry<B: Board>(board: &mut B, numbers: &[u16]) -> Option<u16> {
+    for i in numbers {
+        if 8192 <= *i || entry_at(board, *i) != Ok(None) {
+            return Some(*i);
+        }
+    }
+    None
+}
+
 #[test]
 fn a_list_is_read_as_it_stands(rt: HostRuntime) -> Result<(), Fail> {
     let mut board = empty_board(rt.alloc())?;
@@ -279,9 +294,7 @@ fn a_list_is_read_as_it_stands(rt: HostRuntime) -> Result<(), Fail> {
     let firsts = [(0, 0), (1, 2), (2, 2), (3, 3), (479, 3)];
     assert_eq!(rt; wrong_page(&mut board, &firsts), None);
     assert_eq!(rt; entry_at(&mut board, 2), Ok(Some(LAST_FIELD)));
-    for i in [3, 32, 8191] {
-        assert_eq!(rt; entry_at(&mut board, i), Ok(None), "{i}");
-    }
+    assert_eq!(rt; extra_entry(&mut board, &[3, 32, 8191]), None);
     Ok(())
 }
 
@@ -296,112 +309,146 @@ fn byte_record(place: u16) -> [u8; 8] {
     }
 }
 
-fn byte_records(alloc: Global) -> Result<Vec<[u8; 8]>, AllocError> {
-    let mut records = Vec::new(alloc);
-    for place in 0..8192u16 {
-        records.push(byte_record(place))?;
+// Whether the list's area holds these records all over.
+fn has_bytes(board: &MemoryBoard) -> bool {
+    for i in 0..8192u16 {
+        if record_in(board.ext_page(RELOCATIONS + i / 32), i) != byte_record(i) {
+            return false;
+        }
     }
-    Ok(records)
+    true
 }
 
-const ONE_MORE: Part<'static> = Part {
-    zeros: 2,
-    relocs: &[[0, 0, 0, 26, 10, 0, 0, 0]],
-    ..EMPTY
-};
-
-// Eight components of 1,024 relocations of single bytes, and ones with a single one behind them.
-fn most(alloc: Global, components: u8) -> Result<(MemoryBoard, Vec<u8>), Fail> {
-    let relocs = byte_relocs(alloc)?;
-    let full = full(relocs.as_slice());
-    let mut parts = Vec::new(alloc);
-    for k in 0..components {
-        parts.push(if k < 8 { full } else { ONE_MORE })?;
-    }
-    ready(alloc, parts.as_slice())
+// Whether the list is built of relocations of single bytes alone.
+fn lists_bytes(board: &mut MemoryBoard, manifest: &[u8]) -> Result<bool, Fail> {
+    let found = answer(board, manifest)?;
+    Ok(found == Ok(()) && has_bytes(board))
 }
 
 #[test]
 fn the_most_relocations(rt: HostRuntime) -> Result<(), Fail> {
-    let records = byte_records(rt.alloc())?;
     let (mut board, manifest) = most(rt.alloc(), 8)?;
-    assert_eq!(rt; answer(&mut board, manifest.as_slice())?, Ok(()));
-    assert!(rt; has_list(&board, records.as_slice()));
+    assert!(rt; lists_bytes(&mut board, manifest.as_slice())?);
     let firsts = [(0, 0), (1, 256), (31, 7936), (32, 8192), (479, 8192)];
     assert_eq!(rt; wrong_page(&mut board, &firsts), None);
+    Ok(())
+}
+
+#[test]
+fn one_relocation_too_many(rt: HostRuntime) -> Result<(), Fail> {
     let (mut board, manifest) = most(rt.alloc(), 9)?;
-    assert_eq!(rt;
-        answer(&mut board, manifest.as_slice())?,
-        Err(BuildFault::Relocations(8193))
-    );
+    let found = answer(&mut board, manifest.as_slice())?;
+    assert_eq!(rt; found, Err(BuildFault::Relocations(8193)));
     Ok(())
 }
 
 const CALLERS_LIST: [[u8; 8]; 1] = [[2, 0, 0, 18, 20, 0, 0, 0]];
 
-// What building a list answers that is stopped in this program, and what it answers when it is built again, if that leaves the list.
-fn stopped(alloc: Global, stop_at: u32, fill: u8) -> Result<[Result<(), BuildFault>; 2], Fail> {
-    let (board, manifest) = ready(alloc, &[CALLER, CALLEE])?;
-    let mut board = stopping(alloc, board, stop_at, spoilt(fill))?;
-    let stopped = answer(&mut board, manifest.as_slice())?;
-    let mut board = failing(alloc, board, 0)?;
-    let again = answer(&mut board, manifest.as_slice())?;
-    if !has_list(&board, &CALLERS_LIST) {
-        return Err(Fail::new("the list is another"));
+// Whether building ends where power is cut in this program, and then builds the list.
+fn is_mended(
+    alloc: Global,
+    board: &mut MemoryBoard,
+    manifest: &[u8],
+    stop_at: u32,
+    fill: u8,
+) -> Result<bool, Fail> {
+    stopping(alloc, board, stop_at, spoilt(fill))?;
+    if answer(board, manifest)? != Err(BuildFault::Fault) {
+        return Ok(false);
     }
-    Ok([stopped, again])
+    failing(alloc, board, 0)?;
+    let again = answer(board, manifest)?;
+    Ok(again == Ok(()) && has_list(board, &CALLERS_LIST))
+}
+
+// The same of a board with no list.
+fn is_built_again(alloc: Global, stop_at: u32, fill: u8) -> Result<bool, Fail> {
+    let (mut board, manifest) = ready(alloc, &[CALLER, CALLEE])?;
+    is_mended(alloc, &mut board, manifest.as_slice(), stop_at, fill)
+}
+
+// The first of these programs for which that isn't so.
+fn wrong_stop(alloc: Global, fill: u8, stops: &[u32]) -> Result<Option<u32>, Fail> {
+    for stop_at in stops {
+        if !is_built_again(alloc, *stop_at, fill)? {
+            return Ok(Some(*stop_at));
+        }
+    }
+    Ok(None)
 }
 
 // Power is cut in some programs of a list, each with three fills, and the list is built again.
 #[test]
 fn a_list_that_was_stopped_is_built_again(rt: HostRuntime) -> Result<(), Fail> {
     for fill in 0..3u8 {
-        for stop_at in [1, 2, 3, 128, 255, 256] {
-            let answers = stopped(rt.alloc(), stop_at, fill)?;
-            let want = [Err(BuildFault::Fault), Ok(())];
-            assert_eq!(rt; answers, want, "{stop_at} {fill}");
-        }
+        let wrong = wrong_stop(rt.alloc(), fill, &[1, 2, 3, 128, 255, 256])?;
+        assert_eq!(rt; wrong, None, "{fill}");
     }
     Ok(())
 }
 
-// Whether building fails where this call does, and whether it then succeeds, on a board whose list is to be written anew. Opening the set is
-// no part of that.
-fn failing_build(
+// Programs zeros and 0xFF behind them into each page of the list's area, none of which a list leaves so.
+fn spoil_list<B: Board>(board: &mut B) {
+    for page in 0..RELOCATION_PAGES {
+        put_page(board, RELOCATIONS + page, &[0; 8]);
+    }
+}
+
+// Whether building fails where this call of the board does, as it should, and then succeeds, where the list is to be written anew. Opening
+// the set is no part of that.
+fn is_built_behind(
     alloc: Global,
-    board: MemoryBoard,
+    board: &mut MemoryBoard,
     set: &StoredSet,
     fail: u32,
-) -> Result<(MemoryBoard, bool, bool), Fail>
+    should_fail: bool,
+) -> Result<bool, Fail>
     requires { IsSet set.now }
 {
-    let mut board = failing(alloc, board, 0)?;
-    for page in 0..RELOCATION_PAGES {
-        put_page(&mut board, RELOCATIONS + page, &[0; 8]);
-    }
-    let mut board = failing(alloc, board, fail)?;
-    let fails = built(&mut board, set)? == Err(BuildFault::Fault);
-    let works = built(&mut board, set)?.is_ok();
-    Ok((board, fails, works))
+    failing(alloc, board, 0)?;
+    spoil_list(board);
+    failing(alloc, board, fail)?;
+    let fails = built(board, set)? == Err(BuildFault::Fault);
+    let again = built(board, set)?;
+    Ok(fails == should_fail && again == Ok(()))
 }
+
+// The first of these calls for which that isn't so. Checking reads the relocation and six pages of symbols; building reads them again, and
+// then reads and programs each page. There are 526 calls.
+fn wrong_fault(
+    alloc: Global,
+    board: &mut MemoryBoard,
+    set: &StoredSet,
+    calls: &[u32],
+) -> Result<Option<u32>, Fail>
+    requires { IsSet set.now }
+{
+    for fail in calls {
+        if !is_built_behind(alloc, board, set, *fail, *fail <= 526)? {
+            return Ok(Some(*fail));
+        }
+    }
+    Ok(None)
+}
+
+// Whether a look at a page's first entry and one at an entry fail where their last call of the board does.
+fn looks_fail(alloc: Global, board: &mut MemoryBoard) -> Result<bool, Fail> {
+    failing(alloc, board, 9)?;
+    let first = first_at(board, 0);
+    failing(alloc, board, 1)?;
+    let entry = entry_at(board, 0);
+    Ok(first == Err(Failed) && entry == Err(Failed))
+}
+
+const CALLS: [u32; 13] = [1, 2, 7, 8, 9, 14, 15, 16, 17, 300, 525, 526, 2000];
 
 // Each kind of call of the board fails once, and what was asked answers so.
 #[test]
 fn failing_calls(rt: HostRuntime) -> Result<(), Fail> {
     let (mut board, manifest) = ready(rt.alloc(), &[CALLER, CALLEE])?;
     let set = opened(&mut board, manifest.as_slice())?;
-    // Checking reads the relocation and six pages of symbols; building reads them again, and then reads and programs each page. There are
-    // 526 calls.
-    for fail in [1, 2, 7, 8, 9, 14, 15, 16, 17, 300, 525, 526, 2000] {
-        let (next, fails, works) = failing_build(rt.alloc(), board, &set, fail)?;
-        board = next;
-        assert_eq!(rt; fails, fail <= 526, "{fail}");
-        assert!(rt; works, "{fail}");
-    }
-    board = failing(rt.alloc(), board, 9)?;
-    assert_eq!(rt; first_at(&mut board, 0), Err(Failed));
-    board = failing(rt.alloc(), board, 1)?;
-    assert_eq!(rt; entry_at(&mut board, 0), Err(Failed));
+    assert_eq!(rt; wrong_fault(rt.alloc(), &mut board, &set, &CALLS)?, None);
+    assert!(rt; looks_fail(rt.alloc(), &mut board)?);
     assert_eq!(rt; count_relocs(&set), Ok(1));
     Ok(())
 }

@@ -4,33 +4,43 @@ ghost use Rattle.component_package.specs.packages.Manifest.{IsSlotManifest};
 
 use crate::boards::{begins, empty_board, over, put_package, release};
 use crate::counting::CountingBoard;
-use crate::parts::{CALLEE, CALLER, push_entry, push_number};
+use crate::parts::{CALLEE_PACKAGE, CALLER_PACKAGE, push_entry, push_number};
 use component_package::SlotManifest;
 use component_package::areas::SLOTS;
 use component_store::{SetFault, StoreFault, check, is_held, open_set, piece_differs, put_piece};
-use flash_pages::Board;
+use flash_pages::{Board, Failed};
 use sha2::{Digest, Sha256};
 use std::alloc::{AllocError, Global};
 use std::test::Fail;
 
+// Whether the caller's bytes are refused as a piece of another page, and as one that is too short.
+fn refuses_pieces<B: Board>(board: &mut B) -> bool {
+    let other_page = put_piece(board, 3, 46, 1, &CALLER_PACKAGE);
+    let short = put_piece(board, 3, 46, 0, &CALLER_PACKAGE[..45]);
+    other_page == Err(StoreFault::Page) && short == Err(StoreFault::PieceLength)
+}
+
+// Whether the caller's package is put into slot 3, and differs from what is there before that alone.
+fn puts_the_caller<B: Board>(board: &mut B) -> bool {
+    let before = piece_differs(board, 3, 46, 0, &CALLER_PACKAGE);
+    let put = put_piece(board, 3, 46, 0, &CALLER_PACKAGE);
+    let behind = piece_differs(board, 3, 46, 0, &CALLER_PACKAGE);
+    before == Ok(true) && put == Ok(()) && behind == Ok(false)
+}
+
+// Whether slot 3 has the digest of the caller's package.
+fn has_the_caller<B: Board>(board: &mut B) -> Result<bool, Failed> {
+    check(board, 3, 46, &Sha256::digest(&CALLER_PACKAGE))
+}
+
 #[test]
 fn a_piece_has_its_page_and_its_length(rt: HostRuntime) -> Result<(), Fail> {
     let mut board = empty_board(rt.alloc())?;
-    let digest = Sha256::digest(&CALLER);
-    assert_eq!(rt; check(&mut board, 3, 46, &digest), Ok(false));
-    assert_eq!(rt;
-        put_piece(&mut board, 3, 46, 1, &CALLER),
-        Err(StoreFault::Page)
-    );
-    assert_eq!(rt;
-        put_piece(&mut board, 3, 46, 0, &CALLER[..45]),
-        Err(StoreFault::PieceLength)
-    );
-    assert_eq!(rt; piece_differs(&mut board, 3, 46, 0, &CALLER), Ok(true));
-    assert_eq!(rt; put_piece(&mut board, 3, 46, 0, &CALLER), Ok(()));
-    assert_eq!(rt; piece_differs(&mut board, 3, 46, 0, &CALLER), Ok(false));
-    assert_eq!(rt; check(&mut board, 3, 46, &digest), Ok(true));
-    assert!(rt; begins(board.ext_page(786 + 39 * 3), &CALLER));
+    assert_eq!(rt; has_the_caller(&mut board), Ok(false));
+    assert!(rt; refuses_pieces(&mut board));
+    assert!(rt; puts_the_caller(&mut board));
+    assert_eq!(rt; has_the_caller(&mut board), Ok(true));
+    assert!(rt; begins(board.ext_page(786 + 39 * 3), &CALLER_PACKAGE));
     assert_eq!(rt; board.program_count(), 1);
     Ok(())
 }
@@ -38,8 +48,8 @@ fn a_piece_has_its_page_and_its_length(rt: HostRuntime) -> Result<(), Fail> {
 // The manifest of the caller, and of a component of this number with the callee's package.
 fn pair(alloc: Global, second: u16) -> Result<Vec<u8>, AllocError> {
     let mut manifest = vec![in alloc; 1, 0, 0, 0, 2]?;
-    push_entry(&mut manifest, 1, 46, &Sha256::digest(&CALLER))?;
-    push_entry(&mut manifest, second, 40, &Sha256::digest(&CALLEE))?;
+    push_entry(&mut manifest, 1, 46, &Sha256::digest(&CALLER_PACKAGE))?;
+    push_entry(&mut manifest, second, 40, &Sha256::digest(&CALLEE_PACKAGE))?;
     Ok(manifest)
 }
 
@@ -53,29 +63,37 @@ const OPENINGS: [Opening; 3] = [
     (3, true, Err(SetFault::BadPackage(1, 13))),
 ];
 
-// What opening a set of the two answers.
-fn opening(
-    alloc: Global,
-    component: u16,
-    is_stored: bool,
-) -> Result<Result<(u16, u16), SetFault>, Fail> {
-    let mut board = empty_board(alloc)?;
-    put_package(&mut board, 0, &CALLER);
+// What opening a set answers: bytes of the first component's code and exports of the second.
+fn opening<B: Board>(board: &mut B, release: &SlotManifest) -> Result<(u16, u16), SetFault>
+    requires { IsSlotManifest release.now }
+{
+    match open_set(board, release) {
+        Ok(set) => Ok((set.headers[0].code, set.headers[1].exports)),
+        Err(fault) => Err(fault),
+    }
+}
+
+// Puts the caller into slot 0, and the callee into slot 1 where it is stored.
+fn put_pair<B: Board>(board: &mut B, is_stored: bool) {
+    put_package(board, 0, &CALLER_PACKAGE);
     if is_stored {
-        put_package(&mut board, 1, &CALLEE);
+        put_package(board, 1, &CALLEE_PACKAGE);
     }
+}
+
+// Whether a row is answered so.
+fn is_opened(alloc: Global, row: &Opening) -> Result<bool, Fail> {
+    let (component, is_stored, want) = *row;
     let release = release(pair(alloc, component)?.as_slice())?;
-    match open_set(&mut board, &release) {
-        Ok(set) => Ok(Ok((set.headers[0].code, set.headers[1].exports))),
-        Err(fault) => Ok(Err(fault)),
-    }
+    let mut board = empty_board(alloc)?;
+    put_pair(&mut board, is_stored);
+    Ok(opening(&mut board, &release) == want)
 }
 
 // The first of these that is answered otherwise.
 fn first_wrong(alloc: Global, rows: &[Opening]) -> Result<Option<usize>, Fail> {
     for (i, row) in rows.iter().enumerate() {
-        let (component, is_stored, want) = *row;
-        if opening(alloc, component, is_stored)? != want {
+        if !is_opened(alloc, row)? {
             return Ok(Some(i));
         }
     }
@@ -116,20 +134,44 @@ fn least_and_most(board: &CountingBoard) -> (u8, u8) {
     (least, most)
 }
 
+// Whether the greatest package is checked in slot 0 with one read of each page.
+fn is_checked(board: &mut CountingBoard, digest: &[u8; 32]) -> bool {
+    let checked = check(board, 0, 9984, digest);
+    checked == Ok(true) && least_and_most(board) == (1, 1)
+}
+
+// The manifest of the greatest package.
+fn single(alloc: Global, digest: &[u8; 32]) -> Result<Vec<u8>, AllocError> {
+    let mut manifest = vec![in alloc; 1, 0, 0, 0, 1]?;
+    push_entry(&mut manifest, 1, 9984, digest)?;
+    Ok(manifest)
+}
+
+// Whether its set is opened with a few reads of each page, the one before that among them.
+fn is_opened_sparingly(
+    alloc: Global,
+    board: &mut CountingBoard,
+    digest: &[u8; 32],
+) -> Result<bool, Fail> {
+    let release = release(single(alloc, digest)?.as_slice())?;
+    let is_opened = open_set(board, &release).is_ok();
+    let (least, most) = least_and_most(board);
+    Ok(is_opened && 2 < least && most <= 5)
+}
+
+// Puts the greatest package into slot 0, and gives its digest.
+fn put_greatest(alloc: Global, board: &mut CountingBoard) -> Result<[u8; 32], AllocError> {
+    let package = greatest(alloc)?;
+    put_package(board, 0, package.as_slice());
+    Ok(Sha256::digest(package.as_slice()))
+}
+
 #[test]
 fn pages_are_read_four_times_at_most(rt: HostRuntime) -> Result<(), Fail> {
-    let package = greatest(rt.alloc())?;
     let mut board = CountingBoard::new(rt.alloc())?;
-    put_package(&mut board, 0, package.as_slice());
-    let digest = Sha256::digest(package.as_slice());
-    assert_eq!(rt; check(&mut board, 0, 9984, &digest), Ok(true));
-    assert_eq!(rt; least_and_most(&board), (1, 1));
-    let mut manifest = vec![in rt.alloc(); 1, 0, 0, 0, 1]?;
-    push_entry(&mut manifest, 1, 9984, &digest)?;
-    let release = release(manifest.as_slice())?;
-    assert!(rt; open_set(&mut board, &release).is_ok());
-    let (least, most) = least_and_most(&board);
-    assert!(rt; 2 < least && most <= 5, "{least} {most}");
+    let digest = put_greatest(rt.alloc(), &mut board)?;
+    assert!(rt; is_checked(&mut board, &digest));
+    assert!(rt; is_opened_sparingly(rt.alloc(), &mut board, &digest)?);
     Ok(())
 }
 
@@ -148,30 +190,48 @@ fn is_replaced(old: &SlotManifest, new: &SlotManifest, k: usize) -> bool
         && is_held(new, &entry)
 }
 
+// The first of sixteen for which that isn't so.
+fn wrong_entry(old: &SlotManifest, new: &SlotManifest) -> Option<usize>
+    requires old { IsSlotManifest old.now }
+    requires new { IsSlotManifest new.now }
+{
+    for k in 0..16usize {
+        if !is_replaced(old, new, k) {
+            return Some(k);
+        }
+    }
+    None
+}
+
+// The manifest of a release of sixteen components, whose digests are this byte and the ones behind it.
+fn sixteen(alloc: Global, release: u8, first: u8) -> Result<Vec<u8>, AllocError> {
+    let mut manifest = vec![in alloc; release, 0, 0, 0, 16]?;
+    for k in 0..16u8 {
+        push_entry(&mut manifest, k as u16, 40, &[first.wrapping_add(k); 32])?;
+    }
+    Ok(manifest)
+}
+
 #[test]
 fn sixteen_are_replaced_by_sixteen(rt: HostRuntime) -> Result<(), Fail> {
-    let mut first = vec![in rt.alloc(); 1, 0, 0, 0, 16]?;
-    let mut second = vec![in rt.alloc(); 2, 0, 0, 0, 16]?;
-    for k in 0..16u8 {
-        push_entry(&mut first, k as u16, 40, &[k; 32])?;
-        push_entry(&mut second, k as u16, 40, &[k + 16; 32])?;
-    }
-    let old = release(first.as_slice())?;
-    let new = over(&old, second.as_slice())?;
-    for k in 0..16usize {
-        assert!(rt; is_replaced(&old, &new, k), "{k}");
-    }
+    let old = release(sixteen(rt.alloc(), 1, 0)?.as_slice())?;
+    let new = over(&old, sixteen(rt.alloc(), 2, 16)?.as_slice())?;
+    assert_eq!(rt; wrong_entry(&old, &new), None);
     Ok(())
+}
+
+// The manifest of the callee, and of a component that no release had before.
+fn next_pair(alloc: Global) -> Result<Vec<u8>, AllocError> {
+    let mut manifest = vec![in alloc; 2, 0, 0, 0, 2]?;
+    push_entry(&mut manifest, 2, 40, &Sha256::digest(&CALLEE_PACKAGE))?;
+    push_entry(&mut manifest, 3, 40, &[7; 32])?;
+    Ok(manifest)
 }
 
 #[test]
 fn a_held_entry_keeps_its_slot(rt: HostRuntime) -> Result<(), Fail> {
-    let first = pair(rt.alloc(), 2)?;
-    let mut second = vec![in rt.alloc(); 2, 0, 0, 0, 2]?;
-    push_entry(&mut second, 2, 40, &Sha256::digest(&CALLEE))?;
-    push_entry(&mut second, 3, 40, &[7; 32])?;
-    let old = release(first.as_slice())?;
-    let new = over(&old, second.as_slice())?;
+    let old = release(pair(rt.alloc(), 2)?.as_slice())?;
+    let new = over(&old, next_pair(rt.alloc())?.as_slice())?;
     assert_eq!(rt; (old.slots[0], old.slots[1]), (0, 1));
     assert_eq!(rt; (new.slots[0], new.slots[1]), (1, 2));
     Ok(())

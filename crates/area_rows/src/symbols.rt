@@ -1,8 +1,9 @@
 //! Tables of worked sets, stops and failing calls of a merge, and how often pages of exports are read.
 
+ghost use Rattle.std.specs.Prelude.{IfOk};
 ghost use Rattle.component_store.specs.Sets.{IsSet};
 
-use crate::boards::{failing, merged, opened, record_in, stopping, store, stored};
+use crate::boards::{failing, merged, opened, page_of, record_in, stopping, store, stored};
 use crate::counting::CountingBoard;
 use crate::parts::{EMPTY, Part};
 use component_package::areas::{SLOTS, SYMBOLS};
@@ -155,19 +156,24 @@ const ROWS: [Row<'static>; 9] = [
     },
 ];
 
-// Whether the set is merged as its row says, and the symbols and no others are found in the table.
+// Whether the symbols of these records and no others are found in the table, which holds nothing else.
+fn has_symbols(board: &mut MemoryBoard, records: &[Record]) -> bool {
+    has_table(board, records)
+        && finds_all(board, records)
+        && finds_none(board, &[0, 15, 22, 1000, 65534])
+}
+
+// Whether the set of a manifest is merged as its row says.
+fn is_merged(board: &mut MemoryBoard, manifest: &[u8], row: &Row<'_>) -> Result<bool, Fail> {
+    let set = opened(board, manifest)?;
+    let found = merged(board, &set)?;
+    Ok(found == row.answer && (found.is_err() || has_symbols(board, row.records)))
+}
+
+// The same of a board with the row's parts.
 fn is_right(alloc: Global, row: &Row<'_>) -> Result<bool, Fail> {
     let (mut board, manifest) = stored(alloc, row.parts)?;
-    let set = opened(&mut board, manifest.as_slice())?;
-    if merged(&mut board, &set)? != row.answer {
-        return Ok(false);
-    }
-    Ok(
-        row.answer.is_err()
-            || has_table(&board, row.records)
-                && finds_all(&mut board, row.records)
-                && finds_none(&mut board, &[0, 15, 22, 1000, 65534]),
-    )
+    is_merged(&mut board, manifest.as_slice(), row)
 }
 
 // The first row that isn't so.
@@ -216,16 +222,44 @@ fn exporter<'a>(exports: &'a [[u8; 6]]) -> Part<'a> {
     }
 }
 
-// A board with all of these components, and its manifest in bytes.
-fn dealt(alloc: Global, components: u8, symbols: u16) -> Result<(CountingBoard, Vec<u8>), Fail> {
-    let mut board = CountingBoard::new(alloc)?;
+// Puts component `k` + 1 into slot `k`, and its entry behind a manifest's bytes.
+fn deal(
+    alloc: Global,
+    board: &mut CountingBoard,
+    manifest: &mut Vec<u8>,
+    components: u8,
+    symbols: u16,
+    k: u8,
+) -> Result<(), AllocError> {
+    let exports = exports_of(alloc, components, symbols, k)?;
+    store(alloc, board, manifest, k, &exporter(exports.as_slice()))
+}
+
+// Puts all of these components into slots, and gives their manifest in bytes.
+fn deal_all(
+    alloc: Global,
+    board: &mut CountingBoard,
+    components: u8,
+    symbols: u16,
+) -> Result<Vec<u8>, AllocError> {
     let mut manifest = vec![in alloc; 1, 0, 0, 0, components]?;
     for k in 0..components {
-        let exports = exports_of(alloc, components, symbols, k)?;
-        let part = exporter(exports.as_slice());
-        store(alloc, &mut board, &mut manifest, k, &part)?;
+        deal(alloc, board, &mut manifest, components, symbols, k)?;
     }
-    Ok((board, manifest))
+    Ok(manifest)
+}
+
+// A board with all of these components, and their set.
+fn dealt(
+    alloc: Global,
+    board: &mut CountingBoard,
+    components: u8,
+    symbols: u16,
+) -> Result<StoredSet, Fail>
+    ensures { IfOk result IsSet }
+{
+    let manifest = deal_all(alloc, board, components, symbols)?;
+    opened(board, manifest.as_slice())
 }
 
 // The most reads of a page of slots.
@@ -247,96 +281,181 @@ fn finds_most<B: Board>(board: &mut B) -> bool {
     true
 }
 
+// What a count answers, and the most reads of a page of slots in it.
+fn counted(board: &mut CountingBoard, set: &StoredSet) -> (Result<u16, MergeFault>, u8)
+    requires { IsSet set.now }
+{
+    board.forget();
+    let count = count_symbols(board, set);
+    (count, most_reads(board))
+}
+
+// The same of a merge.
+fn merged_counting(
+    board: &mut CountingBoard,
+    set: &StoredSet,
+) -> Result<(Result<u16, MergeFault>, u8), Fail>
+    requires { IsSet set.now }
+{
+    board.forget();
+    let count = merged(board, set)?;
+    Ok((count, most_reads(board)))
+}
+
+// Whether so many components that export the most symbols are counted and merged with so many reads, and then each symbol is found.
+fn is_read_so_often(
+    alloc: Global,
+    board: &mut CountingBoard,
+    components: u8,
+    reads: u8,
+) -> Result<bool, Fail> {
+    let set = dealt(alloc, board, components, 1024)?;
+    let count = counted(board, &set);
+    let merge = merged_counting(board, &set)?;
+    Ok(count == (Ok(1024), reads) && merge == (Ok(1024), reads) && finds_most(board))
+}
+
 // Each page of exports is read so often by a count, and so often by a merge; and the greatest table is found record by record.
 #[test]
 fn pages_of_exports_are_read_seven_times_at_most(rt: HostRuntime) -> Result<(), Fail> {
     for (components, reads) in [(16, 5), (1, 7)] {
-        let (mut board, manifest) = dealt(rt.alloc(), components, 1024)?;
-        let set = opened(&mut board, manifest.as_slice())?;
-        board.forget();
-        assert_eq!(rt; count_symbols(&mut board, &set), Ok(1024));
-        assert_eq!(rt; most_reads(&board), reads);
-        board.forget();
-        assert_eq!(rt; merged(&mut board, &set)?, Ok(1024));
-        assert_eq!(rt; most_reads(&board), reads);
-        assert!(rt; finds_most(&mut board), "{components}");
+        let mut board = CountingBoard::new(rt.alloc())?;
+        let is_right = is_read_so_often(rt.alloc(), &mut board, components, reads)?;
+        assert!(rt; is_right, "{components}");
     }
     Ok(())
 }
 
 #[test]
 fn too_many_symbols(rt: HostRuntime) -> Result<(), Fail> {
-    let (mut board, manifest) = dealt(rt.alloc(), 16, 1025)?;
-    let set = opened(&mut board, manifest.as_slice())?;
-    assert_eq!(rt;
-        count_symbols(&mut board, &set),
-        Err(MergeFault::Symbols(1025))
-    );
+    let mut board = CountingBoard::new(rt.alloc())?;
+    let set = dealt(rt.alloc(), &mut board, 16, 1025)?;
+    let found = count_symbols(&mut board, &set);
+    assert_eq!(rt; found, Err(MergeFault::Symbols(1025)));
     Ok(())
 }
 
 // Two components with seven symbols together.
 const SEVEN: [Part<'static>; 2] = [THREE, KINDS];
 
-// What a merge answers that is stopped in this program, what the next one answers, and the one behind it if that programs nothing.
-fn stopped(
-    alloc: Global,
-    stop_at: u32,
-    spoil: [u8; 256],
-) -> Result<[Result<u16, MergeFault>; 3], Fail> {
-    let (mut board, manifest) = stored(alloc, &SEVEN)?;
-    let set = opened(&mut board, manifest.as_slice())?;
-    let mut board = stopping(alloc, board, stop_at, spoil)?;
-    let stopped = merged(&mut board, &set)?;
-    let mut board = failing(alloc, board, 0)?;
-    let again = merged(&mut board, &set)?;
+// Whether their symbols are merged, and once more with no program.
+fn is_merged_once(board: &mut MemoryBoard, set: &StoredSet) -> Result<bool, Fail>
+    requires { IsSet set.now }
+{
+    let found = merged(board, set)?;
     let programs = board.program_count();
-    let once_more = merged(&mut board, &set)?;
-    if board.program_count() != programs {
-        return Err(Fail::new("a merge programs pages that are right"));
+    let again = merged(board, set)?;
+    Ok(found == Ok(7) && again == Ok(7) && board.program_count() == programs)
+}
+
+// Whether a merge ends where power is cut in this program, and is then done, and once more with no program.
+fn is_mended(
+    alloc: Global,
+    board: &mut MemoryBoard,
+    manifest: &[u8],
+    stop_at: u32,
+    spoil: u8,
+) -> Result<bool, Fail> {
+    let set = opened(board, manifest)?;
+    stopping(alloc, board, stop_at, page_of(spoil))?;
+    if merged(board, &set)? != Err(MergeFault::Fault) {
+        return Ok(false);
     }
-    Ok([stopped, again, once_more])
+    failing(alloc, board, 0)?;
+    is_merged_once(board, &set)
+}
+
+// The same of a board with no table.
+fn is_merged_again(alloc: Global, stop_at: u32, spoil: u8) -> Result<bool, Fail> {
+    let (mut board, manifest) = stored(alloc, &SEVEN)?;
+    is_mended(alloc, &mut board, manifest.as_slice(), stop_at, spoil)
+}
+
+// The first of the 32 programs for which that isn't so.
+fn wrong_stop(alloc: Global, spoil: u8) -> Result<Option<u32>, Fail> {
+    for stop_at in 1..33u32 {
+        if !is_merged_again(alloc, stop_at, spoil)? {
+            return Ok(Some(stop_at));
+        }
+    }
+    Ok(None)
 }
 
 // A stop in each of the 32 programs, with three fills, and then the whole merge again.
 #[test]
 fn a_merge_that_was_stopped_is_done_again(rt: HostRuntime) -> Result<(), Fail> {
-    let want = [Err(MergeFault::Fault), Ok(7), Ok(7)];
     for spoil in [0, 0x5A, 0xFF] {
-        for stop_at in 1..33u32 {
-            let answers = stopped(rt.alloc(), stop_at, [spoil; 256])?;
-            assert_eq!(rt; answers, want, "{stop_at} {spoil}");
-        }
+        assert_eq!(rt; wrong_stop(rt.alloc(), spoil)?, None, "{spoil}");
     }
     Ok(())
 }
 
-// The same set on a board on which this call fails.
+// What merging the symbols of the set of a manifest answers where this call of the board fails.
+fn failed_merge(
+    alloc: Global,
+    board: &mut MemoryBoard,
+    manifest: &[u8],
+    fail: u32,
+) -> Result<Result<u16, MergeFault>, Fail> {
+    let set = opened(board, manifest)?;
+    failing(alloc, board, fail)?;
+    merged(board, &set)
+}
+
+// The same of a board with no table.
 fn merge_with_fault(alloc: Global, fail: u32) -> Result<Result<u16, MergeFault>, Fail> {
     let (mut board, manifest) = stored(alloc, &SEVEN)?;
-    let set = opened(&mut board, manifest.as_slice())?;
-    let mut board = failing(alloc, board, fail)?;
-    merged(&mut board, &set)
+    failed_merge(alloc, &mut board, manifest.as_slice(), fail)
+}
+
+// What it is to answer. The windows of both components are read, then each page is made, compared and programmed.
+fn wanted(fail: u32) -> Result<u16, MergeFault> {
+    if fail <= 66 {
+        Err(MergeFault::Fault)
+    } else {
+        Ok(7)
+    }
+}
+
+// The first call of the board with which it answers otherwise.
+fn wrong_fault(alloc: Global) -> Result<Option<u32>, Fail> {
+    for fail in 1..70u32 {
+        if merge_with_fault(alloc, fail)? != wanted(fail) {
+            return Ok(Some(fail));
+        }
+    }
+    Ok(None)
+}
+
+// What a count answers where the second call of the board fails, and then once more.
+fn failed_counts(
+    alloc: Global,
+    board: &mut MemoryBoard,
+    manifest: &[u8],
+) -> Result<[Result<u16, MergeFault>; 2], Fail> {
+    let set = opened(board, manifest)?;
+    failing(alloc, board, 2)?;
+    let first = count_symbols(board, &set);
+    let second = count_symbols(board, &set);
+    Ok([first, second])
+}
+
+// What a look-up answers where the third call of the board fails.
+fn failed_look(
+    alloc: Global,
+    board: &mut MemoryBoard,
+) -> Result<Result<Option<u32>, Failed>, Fail> {
+    failing(alloc, board, 3)?;
+    Ok(address_of(board, 20))
 }
 
 // Each call of the board fails once: both calls answer so.
 #[test]
 fn failing_calls(rt: HostRuntime) -> Result<(), Fail> {
-    // The windows of both components are read, then each page is made, compared and programmed.
-    for fail in 1..70u32 {
-        let want = if fail <= 66 {
-            Err(MergeFault::Fault)
-        } else {
-            Ok(7)
-        };
-        assert_eq!(rt; merge_with_fault(rt.alloc(), fail)?, want, "{fail}");
-    }
+    assert_eq!(rt; wrong_fault(rt.alloc())?, None);
     let (mut board, manifest) = stored(rt.alloc(), &SEVEN)?;
-    let set = opened(&mut board, manifest.as_slice())?;
-    let mut board = failing(rt.alloc(), board, 2)?;
-    assert_eq!(rt; count_symbols(&mut board, &set), Err(MergeFault::Fault));
-    assert_eq!(rt; count_symbols(&mut board, &set), Ok(7));
-    let mut board = failing(rt.alloc(), board, 3)?;
-    assert_eq!(rt; address_of(&mut board, 20), Err(Failed));
+    let counts = failed_counts(rt.alloc(), &mut board, manifest.as_slice())?;
+    assert_eq!(rt; counts, [Err(MergeFault::Fault), Ok(7)]);
+    assert_eq!(rt; failed_look(rt.alloc(), &mut board)?, Err(Failed));
     Ok(())
 }
