@@ -113,6 +113,10 @@ const FOREIGN: [Foreign; 2] = [
     ),
 ];
 
+fn foreign() -> &'static [Foreign] {
+    &FOREIGN
+}
+
 // Whether these symbols are checked and listed so.
 fn is_foreign(board: &mut MemoryBoard, set: &StoredSet, row: &Foreign) -> Result<bool, Fail>
     requires { IsSet set.now }
@@ -158,6 +162,10 @@ const LISTED: [Listed; 2] = [
     ),
 ];
 
+fn lists() -> &'static [Listed] {
+    &LISTED
+}
+
 // The first of these lists with which another image is made.
 fn wrong_list<B: Board>(
     board: &mut B,
@@ -179,8 +187,8 @@ fn wrong_list<B: Board>(
 fn areas_that_are_not_the_sets(rt: HostRuntime) -> Result<(), Fail> {
     let (mut board, manifest) = stored(rt.alloc(), &[CALLER, CALLEE])?;
     let set = opened(&mut board, manifest.as_slice())?;
-    assert_eq!(rt; wrong_symbols(&mut board, &set, &FOREIGN)?, None);
-    assert_eq!(rt; wrong_list(&mut board, &set, &LISTED)?, None);
+    assert_eq!(rt; wrong_symbols(&mut board, &set, foreign())?, None);
+    assert_eq!(rt; wrong_list(&mut board, &set, lists())?, None);
     Ok(())
 }
 
