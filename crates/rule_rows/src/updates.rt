@@ -234,13 +234,11 @@ fn radio(alloc: Global) -> Result<Bytes, AllocError> {
 
 // The worked release of both packages, for the mote m1.
 fn add_both(alloc: Global, keeper: &mut MemoryKeeper) -> Result<bool, RowsFault> {
-    if !add_version(alloc, keeper, 1, 1, sender(alloc)?)? {
-        return Ok(false);
-    }
-    if !add_version(alloc, keeper, 2, 1, radio(alloc)?)? {
-        return Ok(false);
-    }
-    add_release(alloc, keeper, "m1", &[(1, 1), (2, 1)])
+    Ok(
+        add_version(alloc, keeper, 1, 1, sender(alloc)?)?
+            && add_version(alloc, keeper, 2, 1, radio(alloc)?)?
+            && add_release(alloc, keeper, "m1", &[(1, 1), (2, 1)])?,
+    )
 }
 
 // Where the answer is END alone, and where there is none.
@@ -275,25 +273,23 @@ fn are_answers(
     Ok(true)
 }
 
-// Whether the worked release's update is this one, and the other answers are those of these rows.
-fn is_worked(
-    alloc: Global,
-    first: &[u8],
-    rows: &[(&str, u32, Option<&[u8]>)],
-) -> Result<bool, RowsFault> {
-    let mut keeper = MemoryKeeper::new(alloc, Vec::new(alloc));
-    if !add_both(alloc, &mut keeper)? {
-        return Ok(false);
-    }
-    if !answers(alloc, &mut keeper, ("m1", 0, Some(first)))? {
-        return Ok(false);
-    }
-    are_answers(alloc, &mut keeper, rows)
+fn answers_first(alloc: Global, keeper: &mut MemoryKeeper) -> Result<bool, RowsFault> {
+    answers(alloc, keeper, ("m1", 0, Some(&FIRST_UPDATE)))
+}
+
+fn answers_worked(alloc: Global, keeper: &mut MemoryKeeper) -> Result<bool, RowsFault> {
+    are_answers(alloc, keeper, &WORKED)
+}
+
+// Whether the worked release's update is the worked one, and the other answers are theirs.
+fn is_worked(alloc: Global, keeper: &mut MemoryKeeper) -> Result<bool, RowsFault> {
+    Ok(add_both(alloc, keeper)? && answers_first(alloc, keeper)? && answers_worked(alloc, keeper)?)
 }
 
 #[test]
 fn worked_update(rt: HostRuntime) -> Result<(), Fail> {
-    assert!(rt; is_worked(rt.alloc(), &FIRST_UPDATE, &WORKED)?);
+    let mut keeper = MemoryKeeper::new(rt.alloc(), Vec::new(rt.alloc()));
+    assert!(rt; is_worked(rt.alloc(), &mut keeper)?);
     Ok(())
 }
 
@@ -315,19 +311,27 @@ fn failing_calls(rt: HostRuntime) -> Result<(), Fail> {
     Ok(())
 }
 
-// Whether the update from release 1 to release 2 fails where this call does; what comes before it may fail as well.
+// Both releases, of the same two packages.
+fn add_second(alloc: Global, keeper: &mut MemoryKeeper) -> Result<bool, RowsFault> {
+    Ok(add_both(alloc, keeper)? && add_release(alloc, keeper, "m1", &[(2, 1), (1, 1)])?)
+}
+
+// Whether the update from release 1 to release 2 fails, where what comes before it doesn't.
+fn update_fails(alloc: Global, keeper: &mut MemoryKeeper) -> bool {
+    let Ok(true) = add_second(alloc, keeper) else {
+        return false;
+    };
+    matches!(
+        update_frames(alloc, keeper, "m1", 1),
+        Err(RowsFault::Failed)
+    )
+}
+
+// Whether that update fails where this call does.
 fn fails(alloc: Global, call: u32) -> Result<bool, AllocError> {
-    let mut keeper = MemoryKeeper::new(alloc, Vec::from_array(alloc, [call])?);
-    let Ok(true) = add_both(alloc, &mut keeper) else {
-        return Ok(false);
-    };
-    let Ok(true) = add_release(alloc, &mut keeper, "m1", &[(2, 1), (1, 1)]) else {
-        return Ok(false);
-    };
-    match update_frames(alloc, &mut keeper, "m1", 1) {
-        Err(RowsFault::Failed) => Ok(true),
-        _ => Ok(false),
-    }
+    let calls = Vec::from_array(alloc, [call])?;
+    let mut keeper = MemoryKeeper::new(alloc, calls);
+    Ok(update_fails(alloc, &mut keeper))
 }
 
 // The length of a package, and the bytes of its pieces.
@@ -342,18 +346,49 @@ const SIZES: [(u16, &[Piece]); 8] = [
     (514, &[(0, 0, 256), (0, 1, 256), (0, 2, 2)]),
 ];
 
-fn has_pieces(alloc: Global, length: u16, pieces: &[Piece]) -> Result<bool, RowsFault> {
-    let mut keeper = MemoryKeeper::new(alloc, Vec::new(alloc));
-    if !add_version(alloc, &mut keeper, 1, 1, package(alloc, 1, 1, length)?)? {
-        return Ok(false);
-    }
-    if !add_release(alloc, &mut keeper, "m1", &[(1, 1)])? {
-        return Ok(false);
-    }
-    match update_frames(alloc, &mut keeper, "m1", 0)? {
-        Some(bytes) => Ok(is_update(bytes.as_slice(), 1, 1, pieces)),
+// Keeps a version of a component, with so many bytes in all.
+fn add_package(
+    alloc: Global,
+    keeper: &mut MemoryKeeper,
+    row: (u16, u16, u16),
+) -> Result<bool, RowsFault> {
+    let (component, version, length) = row;
+    let bytes = package(alloc, component, version, length)?;
+    add_version(alloc, keeper, component, version, bytes)
+}
+
+// Whether the update from this release is to release `release` of so many components, with these pieces.
+fn is_step(
+    alloc: Global,
+    keeper: &mut MemoryKeeper,
+    have: u32,
+    of: (u16, u8),
+    pieces: &[Piece],
+) -> Result<bool, RowsFault> {
+    let (release, count) = of;
+    match update_frames(alloc, keeper, "m1", have)? {
+        Some(bytes) => Ok(is_update(bytes.as_slice(), release, count, pieces)),
         None => Ok(false),
     }
+}
+
+// Whether the update to a package of this length has these pieces.
+fn sends_pieces(
+    alloc: Global,
+    keeper: &mut MemoryKeeper,
+    length: u16,
+    pieces: &[Piece],
+) -> Result<bool, RowsFault> {
+    Ok(
+        add_package(alloc, keeper, (1, 1, length))?
+            && add_release(alloc, keeper, "m1", &[(1, 1)])?
+            && is_step(alloc, keeper, 0, (1, 1), pieces)?,
+    )
+}
+
+fn has_pieces(alloc: Global, length: u16, pieces: &[Piece]) -> Result<bool, RowsFault> {
+    let mut keeper = MemoryKeeper::new(alloc, Vec::new(alloc));
+    sends_pieces(alloc, &mut keeper, length, pieces)
 }
 
 fn have_pieces(alloc: Global, rows: &[(u16, &[Piece])]) -> Result<bool, RowsFault> {
@@ -371,18 +406,19 @@ fn sizes(rt: HostRuntime) -> Result<(), Fail> {
     Ok(())
 }
 
-// Whether the greatest package fills all its 39 pages.
-fn fills_its_pages(alloc: Global) -> Result<bool, RowsFault> {
+// The pieces of the greatest package, which fills all its 39 pages.
+fn full_pages(alloc: Global) -> Result<Vec<Piece>, AllocError> {
     let mut pieces = Vec::new(alloc);
     for page in 0..39u8 {
         pieces.push((0, page, 256))?;
     }
-    has_pieces(alloc, 9984, &pieces)
+    Ok(pieces)
 }
 
 #[test]
 fn greatest_package(rt: HostRuntime) -> Result<(), Fail> {
-    assert!(rt; fills_its_pages(rt.alloc())?);
+    let pieces = full_pages(rt.alloc())?;
+    assert!(rt; has_pieces(rt.alloc(), 9984, &pieces)?);
     Ok(())
 }
 
@@ -412,18 +448,24 @@ const VERSIONS: [(u16, u16, u16); 5] = [
     (2, 2, 258),
 ];
 
-fn add_all(
+fn add_versions(
     alloc: Global,
     keeper: &mut MemoryKeeper,
     versions: &[(u16, u16, u16)],
-    releases: &[&[(u16, u16)]],
 ) -> Result<bool, RowsFault> {
-    for (component, version, length) in versions {
-        let bytes = package(alloc, *component, *version, *length)?;
-        if !add_version(alloc, keeper, *component, *version, bytes)? {
+    for row in versions {
+        if !add_package(alloc, keeper, *row)? {
             return Ok(false);
         }
     }
+    Ok(true)
+}
+
+fn add_releases(
+    alloc: Global,
+    keeper: &mut MemoryKeeper,
+    releases: &[&[(u16, u16)]],
+) -> Result<bool, RowsFault> {
     for parts in releases {
         if !add_release(alloc, keeper, "m1", parts)? {
             return Ok(false);
@@ -436,15 +478,11 @@ fn add_all(
 fn are_steps(
     alloc: Global,
     keeper: &mut MemoryKeeper,
-    release: u16,
-    count: u8,
+    of: (u16, u8),
     rows: &[(u32, &[Piece])],
 ) -> Result<bool, RowsFault> {
     for (have, pieces) in rows {
-        let Some(bytes) = update_frames(alloc, keeper, "m1", *have)? else {
-            return Ok(false);
-        };
-        if !is_update(bytes.as_slice(), release, count, pieces) {
+        if !is_step(alloc, keeper, *have, of, pieces)? {
             return Ok(false);
         }
     }
@@ -458,24 +496,35 @@ const OF_FIVE: [(&str, u32, Option<&[u8]>); 3] = [
     ("m2", 0, None),
 ];
 
-fn is_from_each(
-    alloc: Global,
-    steps: &[(u32, &[Piece])],
-    rows: &[(&str, u32, Option<&[u8]>)],
-) -> Result<bool, RowsFault> {
-    let mut keeper = MemoryKeeper::new(alloc, Vec::new(alloc));
-    if !add_all(alloc, &mut keeper, &VERSIONS, &RELEASES)? {
-        return Ok(false);
-    }
-    if !are_steps(alloc, &mut keeper, 5, 3, steps)? {
-        return Ok(false);
-    }
-    are_answers(alloc, &mut keeper, rows)
+fn add_five_versions(alloc: Global, keeper: &mut MemoryKeeper) -> Result<bool, RowsFault> {
+    add_versions(alloc, keeper, &VERSIONS)
+}
+
+fn add_five_releases(alloc: Global, keeper: &mut MemoryKeeper) -> Result<bool, RowsFault> {
+    add_releases(alloc, keeper, &RELEASES)
+}
+
+fn are_steps_to_five(alloc: Global, keeper: &mut MemoryKeeper) -> Result<bool, RowsFault> {
+    are_steps(alloc, keeper, (5, 3), &STEPS)
+}
+
+fn are_answers_of_five(alloc: Global, keeper: &mut MemoryKeeper) -> Result<bool, RowsFault> {
+    are_answers(alloc, keeper, &OF_FIVE)
+}
+
+fn is_from_each(alloc: Global, keeper: &mut MemoryKeeper) -> Result<bool, RowsFault> {
+    Ok(
+        add_five_versions(alloc, keeper)?
+            && add_five_releases(alloc, keeper)?
+            && are_steps_to_five(alloc, keeper)?
+            && are_answers_of_five(alloc, keeper)?,
+    )
 }
 
 #[test]
 fn from_each_release(rt: HostRuntime) -> Result<(), Fail> {
-    assert!(rt; is_from_each(rt.alloc(), &STEPS, &OF_FIVE)?);
+    let mut keeper = MemoryKeeper::new(rt.alloc(), Vec::new(rt.alloc()));
+    assert!(rt; is_from_each(rt.alloc(), &mut keeper)?);
     Ok(())
 }
 
@@ -489,63 +538,76 @@ fn sixteen(alloc: Global, last: u16) -> Result<Vec<(u16, u16)>, AllocError> {
     Ok(parts)
 }
 
-fn add_sixteen(alloc: Global, keeper: &mut MemoryKeeper) -> Result<bool, RowsFault> {
+// Sixteen components, and the last one in a second version.
+fn add_seventeen_versions(alloc: Global, keeper: &mut MemoryKeeper) -> Result<bool, RowsFault> {
     for component in 1..17u16 {
-        let bytes = package(alloc, component, 1, 32)?;
-        if !add_version(alloc, keeper, component, 1, bytes)? {
+        if !add_package(alloc, keeper, (component, 1, 32))? {
             return Ok(false);
         }
     }
-    if !add_version(alloc, keeper, 16, 2, package(alloc, 16, 2, 34)?)? {
-        return Ok(false);
-    }
-    let first = sixteen(alloc, 1)?;
-    if !add_release(alloc, keeper, "m1", &first)? {
-        return Ok(false);
-    }
-    let second = sixteen(alloc, 2)?;
-    add_release(alloc, keeper, "m1", &second)
+    add_package(alloc, keeper, (16, 2, 34))
 }
 
-fn is_of_sixteen(alloc: Global) -> Result<bool, RowsFault> {
-    let mut keeper = MemoryKeeper::new(alloc, Vec::new(alloc));
-    if !add_sixteen(alloc, &mut keeper)? {
-        return Ok(false);
-    }
+// A release of sixteen components, the last one in this version.
+fn add_sixteen(alloc: Global, keeper: &mut MemoryKeeper, last: u16) -> Result<bool, RowsFault> {
+    let parts = sixteen(alloc, last)?;
+    add_release(alloc, keeper, "m1", &parts)
+}
+
+// All pieces of the release of sixteen.
+fn sixteen_pieces(alloc: Global) -> Result<Vec<Piece>, AllocError> {
     let mut pieces = Vec::new(alloc);
     for ordinal in 0..15u8 {
         pieces.push((ordinal, 0, 32))?;
     }
     pieces.push((15, 0, 34))?;
-    if !are_steps(alloc, &mut keeper, 2, 16, &[(0, &pieces)])? {
-        return Ok(false);
-    }
-    are_steps(alloc, &mut keeper, 2, 16, &[(1, &[(15, 0, 34)])])
+    Ok(pieces)
+}
+
+// Whether the update from nothing has these pieces, and the one from the release before the last one alone.
+fn is_of_sixteen(
+    alloc: Global,
+    keeper: &mut MemoryKeeper,
+    pieces: &[Piece],
+) -> Result<bool, RowsFault> {
+    Ok(
+        add_seventeen_versions(alloc, keeper)?
+            && add_sixteen(alloc, keeper, 1)?
+            && add_sixteen(alloc, keeper, 2)?
+            && is_step(alloc, keeper, 0, (2, 16), pieces)?
+            && is_step(alloc, keeper, 1, (2, 16), &[(15, 0, 34)])?,
+    )
 }
 
 #[test]
 fn sixteen_components(rt: HostRuntime) -> Result<(), Fail> {
-    assert!(rt; is_of_sixteen(rt.alloc())?);
+    let pieces = sixteen_pieces(rt.alloc())?;
+    let mut keeper = MemoryKeeper::new(rt.alloc(), Vec::new(rt.alloc()));
+    assert!(rt; is_of_sixteen(rt.alloc(), &mut keeper, &pieces)?);
     Ok(())
 }
 
-// A thousand releases, in turn of version 2 and version 1 of one component.
-fn add_thousand(alloc: Global, keeper: &mut MemoryKeeper, half: u32) -> Result<bool, RowsFault> {
-    if !add_version(alloc, keeper, 1, 1, package(alloc, 1, 1, 32)?)? {
-        return Ok(false);
-    }
-    if !add_version(alloc, keeper, 1, 2, package(alloc, 1, 2, 34)?)? {
-        return Ok(false);
-    }
-    for _ in 0..half {
-        if !add_release(alloc, keeper, "m1", &[(1, 2)])? {
-            return Ok(false);
-        }
-        if !add_release(alloc, keeper, "m1", &[(1, 1)])? {
+// A release of version 2 of one component, and one of version 1.
+fn add_two_releases(alloc: Global, keeper: &mut MemoryKeeper) -> Result<bool, RowsFault> {
+    Ok(add_release(alloc, keeper, "m1", &[(1, 2)])? && add_release(alloc, keeper, "m1", &[(1, 1)])?)
+}
+
+fn add_thousand_releases(alloc: Global, keeper: &mut MemoryKeeper) -> Result<bool, RowsFault> {
+    for _ in 0..500u32 {
+        if !add_two_releases(alloc, keeper)? {
             return Ok(false);
         }
     }
     Ok(true)
+}
+
+// A thousand releases, in turn of version 2 and version 1 of one component.
+fn add_thousand(alloc: Global, keeper: &mut MemoryKeeper) -> Result<bool, RowsFault> {
+    Ok(
+        add_package(alloc, keeper, (1, 1, 32))?
+            && add_package(alloc, keeper, (1, 2, 34))?
+            && add_thousand_releases(alloc, keeper)?,
+    )
 }
 
 const OF_THOUSAND: [(u32, &[Piece]); 6] = [
@@ -562,23 +624,25 @@ const BEHIND_THOUSAND: [(&str, u32, Option<&[u8]>); 2] = [
     ("m1", 1001, None),
 ];
 
-fn is_of_thousand(
-    alloc: Global,
-    steps: &[(u32, &[Piece])],
-    rows: &[(&str, u32, Option<&[u8]>)],
-) -> Result<bool, RowsFault> {
-    let mut keeper = MemoryKeeper::new(alloc, Vec::new(alloc));
-    if !add_thousand(alloc, &mut keeper, 500)? {
-        return Ok(false);
-    }
-    if !are_steps(alloc, &mut keeper, 1000, 1, steps)? {
-        return Ok(false);
-    }
-    are_answers(alloc, &mut keeper, rows)
+fn are_steps_to_thousand(alloc: Global, keeper: &mut MemoryKeeper) -> Result<bool, RowsFault> {
+    are_steps(alloc, keeper, (1000, 1), &OF_THOUSAND)
+}
+
+fn are_answers_behind(alloc: Global, keeper: &mut MemoryKeeper) -> Result<bool, RowsFault> {
+    are_answers(alloc, keeper, &BEHIND_THOUSAND)
+}
+
+fn is_of_thousand(alloc: Global, keeper: &mut MemoryKeeper) -> Result<bool, RowsFault> {
+    Ok(
+        add_thousand(alloc, keeper)?
+            && are_steps_to_thousand(alloc, keeper)?
+            && are_answers_behind(alloc, keeper)?,
+    )
 }
 
 #[test]
 fn thousand_releases(rt: HostRuntime) -> Result<(), Fail> {
-    assert!(rt; is_of_thousand(rt.alloc(), &OF_THOUSAND, &BEHIND_THOUSAND)?);
+    let mut keeper = MemoryKeeper::new(rt.alloc(), Vec::new(rt.alloc()));
+    assert!(rt; is_of_thousand(rt.alloc(), &mut keeper)?);
     Ok(())
 }

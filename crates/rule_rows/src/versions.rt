@@ -338,60 +338,83 @@ fn make(alloc: Global, rows: &mut MemoryKeeper, judged: Judged, key: &str) -> Re
     Ok(package)
 }
 
-// Keeps an object under a name and a key, as the numbers that are wanted; answers its package.
-fn keep(
-    rt: &impl Abort,
-    alloc: Global,
-    rows: &mut MemoryKeeper,
-    name: &str,
-    key: &str,
-    object: &[u8],
-    wanted: &[i64],
-) -> Result<Vec<u8>, Fail> {
-    assert!(rt; object.len() <= 262_144);
-    let judged = match judge_version(alloc, rows, name, object) {
+// What is to be kept: an object under a name and a key, and the numbers that it is to be given.
+#[derive(Clone, Copy, Drop)]
+struct Posted<'a> {
+    name: &'a str,
+    key: &'a str,
+    object: &'a [u8],
+    wanted: &'a [i64],
+}
+
+// Keeps an object where it is given the numbers that are wanted; answers its package.
+fn keep(alloc: Global, rows: &mut MemoryKeeper, posted: &Posted<'_>) -> Result<Vec<u8>, Fail> {
+    if 262_144 < posted.object.len() {
+        return Err("too long an object".into());
+    }
+    let judged = match judge_version(alloc, rows, posted.name, posted.object) {
         Ok(judged) => judged,
         Err(_) => return Err("a fault".into()),
     };
-    let numbers = numbers_of(alloc, &judged)?;
-    assert_eq!(rt; numbers.as_slice(), wanted);
-    make(alloc, rows, judged, key)
+    if numbers_of(alloc, &judged)?.as_slice() != posted.wanted {
+        return Err("other numbers".into());
+    }
+    make(alloc, rows, judged, posted.key)
+}
+
+fn keeps_the_sender(alloc: Global, rows: &mut MemoryKeeper, object: &[u8]) -> Result<bool, Fail> {
+    let posted = Posted {
+        name: "sender",
+        key: "1",
+        object,
+        wanted: &[0, 1, 1, 16, 17, 18],
+    };
+    Ok(keep(alloc, rows, &posted)?.as_slice() == PACKAGE.as_slice())
+}
+
+fn keeps_its_next_version(
+    alloc: Global,
+    rows: &mut MemoryKeeper,
+    object: &[u8],
+) -> Result<bool, Fail> {
+    let posted = Posted {
+        name: "sender",
+        key: "2",
+        object,
+        wanted: &[0, 1, 2],
+    };
+    Ok(keep(alloc, rows, &posted)?.len() == 102)
+}
+
+fn keeps_the_radio(alloc: Global, rows: &mut MemoryKeeper, object: &[u8]) -> Result<bool, Fail> {
+    let posted = Posted {
+        name: "radio",
+        key: "3",
+        object,
+        wanted: &[0, 2, 1],
+    };
+    Ok(keep(alloc, rows, &posted)?.as_slice() == RADIO_PACKAGE.as_slice())
+}
+
+fn keeps_all(
+    alloc: Global,
+    rows: &mut MemoryKeeper,
+    sender: &[u8],
+    radio: &[u8],
+) -> Result<[bool; 3], Fail> {
+    Ok([
+        keeps_the_sender(alloc, rows, sender)?,
+        keeps_its_next_version(alloc, rows, sender)?,
+        keeps_the_radio(alloc, rows, radio)?,
+    ])
 }
 
 #[test]
 fn keeps_versions(rt: HostRuntime) -> Result<(), Fail> {
+    let sender = object_file(rt.alloc(), Object::Sender)?;
+    let radio = object_file(rt.alloc(), Object::Radio)?;
     let mut rows = MemoryKeeper::new(rt.alloc(), Vec::new(rt.alloc()));
-    let object = object_file(rt.alloc(), Object::Sender)?;
-    let package = keep(
-        &rt,
-        rt.alloc(),
-        &mut rows,
-        "sender",
-        "1",
-        object.as_slice(),
-        &[0, 1, 1, 16, 17, 18],
-    )?;
-    assert_eq!(rt; package.as_slice(), PACKAGE.as_slice());
-    let again = keep(
-        &rt,
-        rt.alloc(),
-        &mut rows,
-        "sender",
-        "2",
-        object.as_slice(),
-        &[0, 1, 2],
-    )?;
-    assert_eq!(rt; again.len(), 102);
-    let other = object_file(rt.alloc(), Object::Radio)?;
-    let package = keep(
-        &rt,
-        rt.alloc(),
-        &mut rows,
-        "radio",
-        "3",
-        other.as_slice(),
-        &[0, 2, 1],
-    )?;
-    assert_eq!(rt; package.as_slice(), RADIO_PACKAGE.as_slice());
+    let kept = keeps_all(rt.alloc(), &mut rows, sender.as_slice(), radio.as_slice())?;
+    assert_eq!(rt; kept, [true; 3]);
     Ok(())
 }
