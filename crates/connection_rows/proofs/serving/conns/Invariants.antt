@@ -1,6 +1,6 @@
 use Rattle.std.proofs.Common.{All}
 use Rattle.http_listeners.specs.Conns.{IsFresh}
-use Rattle.server_loop.proofs.tests.conns.Given as goal
+use Rattle.connection_rows.proofs.serving.conns.Given as goal
 
 abbrev pub invariant-loop-row : goal.invariant-loop-row
 invariant-loop-row l = All IsFresh l.conns.items
