@@ -12,19 +12,28 @@ use tcp_connections::TcpConnections;
 // The words that ask for one connection.
 const WORDS: [&str; 2] = ["--connections", "1"];
 
-#[test]
-fn a_request_waits_for_its_accept(rt: HostRuntime) -> Result<(), Fail> {
-    let listener = TcpListener::bind(&rt, "127.0.0.1:0")?;
-    let mut client = TcpStream::connect(&rt, listener.local_addr()?)?;
-    client.write_all(b"GET /motes/none HTTP/1.1\r\n\r\n")?;
-    let mut connections = TcpConnections::over(&rt, listener);
+// The status of a server over this port and rows in memory.
+fn status(rt: &HostRuntime, listener: TcpListener) -> u8 {
+    let mut connections = TcpConnections::over(rt, listener);
     let mut keeper = MemoryKeeper::new(rt.alloc(), Vec::new(rt.alloc()));
-    assert_eq!(rt;
-        server_main(rt.alloc(), WORDS.as_slice(), &mut connections, &mut keeper),
-        0
-    );
+    server_main(rt.alloc(), WORDS.as_slice(), &mut connections, &mut keeper)
+}
+
+// The status of a server that starts once this request was sent, and the reply.
+fn answer(rt: &HostRuntime, request: &[u8]) -> io::Result<(u8, Vec<u8>)> {
+    let listener = TcpListener::bind(rt, "127.0.0.1:0")?;
+    let mut client = TcpStream::connect(rt, listener.local_addr()?)?;
+    client.write_all(request)?;
+    let status = status(rt, listener);
     let mut reply = Vec::new(rt.alloc());
     client.read_to_end(&mut reply)?;
+    Ok((status, reply))
+}
+
+#[test]
+fn a_request_waits_for_its_accept(rt: HostRuntime) -> Result<(), Fail> {
+    let (status, reply) = answer(&rt, b"GET /motes/none HTTP/1.1\r\n\r\n")?;
+    assert_eq!(rt; status, 0);
     assert_eq!(rt;
         reply.as_slice(),
         b"HTTP/1.1 404 Not Found\r\nContent-Type: application/json\r\nContent-Length: 25\r\nConnection: close\r\n\r\n{\"refusal\":2,\"values\":[]}".as_slice()
@@ -94,6 +103,14 @@ const LATER: [Row; 6] = [
     },
 ];
 
+fn first() -> &'static [Row] {
+    &FIRST
+}
+
+fn later() -> &'static [Row] {
+    &LATER
+}
+
 // The reply to a request that comes over a connection of its own.
 fn ask<Q: Keeper>(
     rt: &HostRuntime,
@@ -113,18 +130,29 @@ fn ask<Q: Keeper>(
 }
 
 // The first of these requests that has another reply, each over a connection of its own.
-fn first_wrong(rt: &HostRuntime, rows: &[Row]) -> io::Result<Option<usize>> {
-    let listener = TcpListener::bind(rt, "127.0.0.1:0")?;
-    let address = listener.local_addr()?;
-    let mut connections = TcpConnections::over(rt, listener);
-    let mut keeper = SqliteKeeper::at(rt, rt.alloc(), FILE);
+fn first_wrong<Q: Keeper>(
+    rt: &HostRuntime,
+    address: SocketAddr,
+    connections: &mut TcpConnections<'_, HostRuntime>,
+    keeper: &mut Q,
+    rows: &[Row],
+) -> io::Result<Option<usize>> {
     for (i, row) in rows.iter().enumerate() {
-        let reply = ask(rt, address, &mut connections, &mut keeper, row.request)?;
+        let reply = ask(rt, address, connections, keeper, row.request)?;
         if reply.as_slice() != row.reply {
             return Ok(Some(i));
         }
     }
     Ok(None)
+}
+
+// The first of these requests that a server which was started anew on the file replies to otherwise.
+fn first_wrong_anew(rt: &HostRuntime, rows: &[Row]) -> io::Result<Option<usize>> {
+    let listener = TcpListener::bind(rt, "127.0.0.1:0")?;
+    let address = listener.local_addr()?;
+    let mut connections = TcpConnections::over(rt, listener);
+    let mut keeper = SqliteKeeper::at(rt, rt.alloc(), FILE);
+    first_wrong(rt, address, &mut connections, &mut keeper, rows)
 }
 
 const FILE: &str = "release_server_test.db";
@@ -140,8 +168,8 @@ fn remove(rt: &HostRuntime) {
 #[test]
 fn a_release_outlives_its_server(rt: HostRuntime) -> Result<(), Fail> {
     remove(&rt);
-    assert_eq!(rt; first_wrong(&rt, &FIRST)?, None);
-    assert_eq!(rt; first_wrong(&rt, &LATER)?, None);
+    assert_eq!(rt; first_wrong_anew(&rt, first())?, None);
+    assert_eq!(rt; first_wrong_anew(&rt, later())?, None);
     remove(&rt);
     Ok(())
 }

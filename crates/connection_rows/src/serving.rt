@@ -96,8 +96,10 @@ fn serve(
     failing_call: u32,
     rows: &[Row<'_>],
 ) -> Result<(u8, usize, Option<usize>), Fail> {
+    // What may fail stands before what is dear to drop.
+    let failing_calls = [failing_call].to_vec(alloc)?;
     let mut listener = MemoryListener::new(alloc, conns(alloc, rows)?)?;
-    let mut keeper = MemoryKeeper::new(alloc, [failing_call].to_vec(alloc)?);
+    let mut keeper = MemoryKeeper::new(alloc, failing_calls);
     let status = server_main(alloc, words, &mut listener, &mut keeper);
     let finished = listener.finished();
     Ok((status, finished.len(), first_wrong(finished, rows)))
