@@ -45,53 +45,98 @@ fn number<'a>(alloc: Global, name: &'a str, help: &'a str) -> Arg<'a> {
         .value_parser(value_parser!(u16))
 }
 
-fn pack<'a>(alloc: Global) -> Result<Command<'a>, AllocError> {
+fn names<'a>(alloc: Global) -> Arg<'a> {
+    Arg::new(alloc, "names")
+        .long("names")
+        .value_name("FILE")
+        .help("The file of names; where there is none it is made")
+        .required(true)
+}
+
+fn pack_words<'a>(alloc: Global) -> Result<Command<'a>, AllocError> {
     Command::new(alloc, "pack")
         .about("Writes the package of an object")
         .long_about(PACK)
-        .arg(
-            Arg::new(alloc, "names")
-                .long("names")
-                .value_name("FILE")
-                .help("The file of names; where there is none it is made")
-                .required(true),
-        )?
-        .arg(number(alloc, "COMPONENT", "The component's number, 0 to 65535"))?
-        .arg(number(alloc, "VERSION", "The component's version, 0 to 65535"))?
-        .arg(
-            Arg::new(alloc, "OBJECT")
-                .help("The object, for avr5 or avr51")
-                .required(true),
-        )
+        .arg(names(alloc))
+}
+
+// Adds the numbers that `pack` takes.
+fn with_numbers<'a>(alloc: Global, pack: Command<'a>) -> Result<Command<'a>, AllocError> {
+    pack.arg(number(alloc, "COMPONENT", "The component's number, 0 to 65535"))?
+        .arg(number(alloc, "VERSION", "The component's version, 0 to 65535"))
+}
+
+fn with_object<'a>(alloc: Global, pack: Command<'a>) -> Result<Command<'a>, AllocError> {
+    let object = Arg::new(alloc, "OBJECT")
+        .help("The object, for avr5 or avr51")
+        .required(true);
+    pack.arg(object)
+}
+
+fn pack<'a>(alloc: Global) -> Result<Command<'a>, AllocError> {
+    with_object(alloc, with_numbers(alloc, pack_words(alloc)?)?)
+}
+
+fn patch<'a>(alloc: Global) -> Command<'a> {
+    Command::new(alloc, "patch")
+        .about("Shows what relocations make of fields")
+        .long_about(PATCH)
+}
+
+fn object<'a>(alloc: Global) -> Result<Command<'a>, AllocError> {
+    Command::new(alloc, "object")
+        .about("Prints what an object file has")
+        .long_about(OBJECT)
+        .arg(file(alloc, "The object; standard input where none is given"))
+}
+
+fn package<'a>(alloc: Global) -> Result<Command<'a>, AllocError> {
+    Command::new(alloc, "package")
+        .about("Prints what a package has")
+        .long_about(PACKAGE)
+        .arg(file(alloc, "The package; standard input where none is given"))
+}
+
+fn link<'a>(alloc: Global) -> Result<Command<'a>, AllocError> {
+    let packages = file(alloc, "Packages of different components, at most 16")
+        .required(true)
+        .num_args(1..);
+    Command::new(alloc, "link")
+        .about("Writes the image of packages")
+        .long_about(LINK)
+        .arg(packages)
+}
+
+fn tool<'a>(alloc: Global) -> Command<'a> {
+    Command::new(alloc, "flexcup_tool")
+        .about("Looks at objects and packages, packs objects and links packages")
+        .subcommand_required(true)
+}
+
+// Adds a subcommand, where there was memory for it.
+fn join<'a>(
+    tool: Command<'a>,
+    made: Result<Command<'a>, AllocError>,
+) -> Result<Command<'a>, AllocError> {
+    tool.subcommand(made?)
+}
+
+// Adds the subcommands that show what files have.
+fn with_shows<'a>(alloc: Global, tool: Command<'a>) -> Result<Command<'a>, AllocError> {
+    join(join(tool, object(alloc))?, package(alloc))
+}
+
+// Adds the subcommands that write packages and images.
+fn with_writes<'a>(alloc: Global, tool: Command<'a>) -> Result<Command<'a>, AllocError> {
+    let pack = pack(alloc)?;
+    join(tool.subcommand(pack)?, link(alloc))
+}
+
+fn with_patch<'a>(alloc: Global) -> Result<Command<'a>, AllocError> {
+    tool(alloc).subcommand(patch(alloc))
 }
 
 /// The program's command line.
 pub(crate) fn command<'a>(alloc: Global) -> Result<Command<'a>, AllocError> {
-    let patch = Command::new(alloc, "patch")
-        .about("Shows what relocations make of fields")
-        .long_about(PATCH);
-    let object = Command::new(alloc, "object")
-        .about("Prints what an object file has")
-        .long_about(OBJECT)
-        .arg(file(alloc, "The object; standard input where none is given"))?;
-    let package = Command::new(alloc, "package")
-        .about("Prints what a package has")
-        .long_about(PACKAGE)
-        .arg(file(alloc, "The package; standard input where none is given"))?;
-    let link = Command::new(alloc, "link")
-        .about("Writes the image of packages")
-        .long_about(LINK)
-        .arg(
-            file(alloc, "Packages of different components, at most 16")
-                .required(true)
-                .num_args(1..),
-        )?;
-    Command::new(alloc, "flexcup_tool")
-        .about("Looks at objects and packages, packs objects and links packages")
-        .subcommand_required(true)
-        .subcommand(patch)?
-        .subcommand(object)?
-        .subcommand(package)?
-        .subcommand(pack(alloc)?)?
-        .subcommand(link)
+    with_writes(alloc, with_shows(alloc, with_patch(alloc)?)?)
 }
