@@ -8,42 +8,86 @@ use full_linker::{LinkFault, may_be_linked};
 use std::alloc::{AllocError, Global};
 use std::test::Fail;
 
-const CODE: Part<'static> = Part {
-    code: &[0; 7680],
-    ..NOTHING
-};
+fn part<'a>(code: &'a [u8], exports: &'a [Symbol], relocs: &'a [Field]) -> Part<'a> {
+    Part {
+        code,
+        init: &[],
+        bss: 0,
+        exports,
+        relocs,
+    }
+}
 
-const MORE_CODE: Part<'static> = Part {
-    code: &[0; 7682],
-    ..NOTHING
-};
+// A component of two bytes of data and so many of bss.
+fn ram_part<'a>(code: &'a [u8], bss: u16) -> Part<'a> {
+    Part {
+        code,
+        init: &[0, 0],
+        bss,
+        exports: &[],
+        relocs: &[],
+    }
+}
 
-const RAM: Part<'static> = Part {
-    init: &[0, 0],
-    bss: 3582,
-    ..NOTHING
-};
+// How many bytes a set has, or why it has no image.
+fn size(alloc: Global, parts: &[Part<'_>]) -> Result<Result<usize, LinkFault>, Fail> {
+    match linked(alloc, parts)? {
+        Ok(image) => Ok(Ok(image.len())),
+        Err(fault) => Ok(Err(fault)),
+    }
+}
 
-const MORE_RAM: Part<'static> = Part { bss: 3584, ..RAM };
+// The size of sixteen components of this code, but for the fourth and the last.
+fn size_of_sixteen<'a>(
+    alloc: Global,
+    code: Part<'a>,
+    fourth: Part<'a>,
+    last: Part<'a>,
+) -> Result<Result<usize, LinkFault>, Fail> {
+    let set = [
+        code, code, code, fourth, code, code, code, code, code, code, code, code, code, code, code,
+        last,
+    ];
+    size(alloc, &set)
+}
 
-const CODE_AND_MORE_RAM: Part<'static> = Part {
-    code: &[0; 7680],
-    ..MORE_RAM
-};
+// The sizes with the most code, with a word more, and with too much RAM besides, which flash comes before.
+fn sizes_of_code(
+    alloc: Global,
+    code: &[u8],
+    more_code: &[u8],
+) -> Result<[Result<usize, LinkFault>; 3], Fail> {
+    let most = part(code, &[], &[]);
+    let more = part(more_code, &[], &[]);
+    let more_ram = ram_part(code, 3584);
+    Ok([
+        size_of_sixteen(alloc, most, most, most)?,
+        size_of_sixteen(alloc, most, more, most)?,
+        size_of_sixteen(alloc, most, more, more_ram)?,
+    ])
+}
+
+fn sizes_of_ram(alloc: Global) -> Result<[Result<usize, LinkFault>; 2], Fail> {
+    Ok([
+        size(alloc, &[ram_part(&[], 3582)])?,
+        size(alloc, &[ram_part(&[], 3584)])?,
+    ])
+}
 
 #[test]
-fn most_bytes(rt: HostRuntime) -> Result<(), Fail> {
-    let full = linked(rt.alloc(), &[CODE; 16])?;
-    assert_eq!(rt; full.map(|v| v.len()), Ok(122_880));
-    let full = linked(rt.alloc(), &[RAM])?;
-    assert_eq!(rt; full.map(|v| v.len()), Ok(2));
-    let mut over = [CODE; 16];
-    over[3] = MORE_CODE;
-    assert_eq!(rt; fault(rt.alloc(), &over)?, Some(Flash(122_882)));
-    assert_eq!(rt; fault(rt.alloc(), &[MORE_RAM])?, Some(Ram(3586)));
-    // Flash comes before RAM.
-    over[15] = CODE_AND_MORE_RAM;
-    assert_eq!(rt; fault(rt.alloc(), &over)?, Some(Flash(122_884)));
+fn most_code(rt: HostRuntime) -> Result<(), Fail> {
+    let code = vec![in rt.alloc(); 0; 7680]?;
+    let more_code = vec![in rt.alloc(); 0; 7682]?;
+    assert_eq!(rt;
+        sizes_of_code(rt.alloc(), &code, &more_code)?,
+        [Ok(122_880), Err(Flash(122_882)), Err(Flash(122_884))]
+    );
+    Ok(())
+}
+
+#[test]
+fn most_ram(rt: HostRuntime) -> Result<(), Fail> {
+    assert_eq!(rt; sizes_of_ram(rt.alloc())?, [Ok(2), Err(Ram(3586))]);
     Ok(())
 }
 
@@ -65,75 +109,86 @@ fn fields(alloc: Global, count: u16) -> Result<Vec<Field>, AllocError> {
     Ok(fields)
 }
 
-#[test]
-fn most_symbols(rt: HostRuntime) -> Result<(), Fail> {
-    let most = symbols(rt.alloc(), 1024)?;
-    let more = symbols(rt.alloc(), 1025)?;
-    let exports = Part {
-        exports: &most,
-        ..NOTHING
-    };
-    let more_exports = Part {
-        exports: &more,
-        ..NOTHING
-    };
+// What sets answer that have twice the most symbols, the same; that have one more; and that have too much RAM as well, which comes first.
+fn beyond_symbols<'a>(
+    alloc: Global,
+    most: &'a [Symbol],
+    more: &'a [Symbol],
+) -> Result<[Option<LinkFault>; 3], Fail> {
+    let most = part(&[], most, &[]);
+    let more = part(&[], more, &[]);
     let more_ram = Part {
         bss: 3586,
         ..NOTHING
     };
-    assert_eq!(rt; fault(rt.alloc(), &[exports, exports])?, None);
+    Ok([
+        fault(alloc, &[most, most])?,
+        fault(alloc, &[most, more])?,
+        fault(alloc, &[more, more_ram])?,
+    ])
+}
+
+#[test]
+fn most_symbols(rt: HostRuntime) -> Result<(), Fail> {
+    let most = symbols(rt.alloc(), 1024)?;
+    let more = symbols(rt.alloc(), 1025)?;
     assert_eq!(rt;
-        fault(rt.alloc(), &[exports, more_exports])?,
-        Some(Symbols(1025))
-    );
-    // RAM comes before symbols.
-    assert_eq!(rt;
-        fault(rt.alloc(), &[more_exports, more_ram])?,
-        Some(Ram(3586))
+        beyond_symbols(rt.alloc(), &most, &more)?,
+        [None, Some(Symbols(1025)), Some(Ram(3586))]
     );
     Ok(())
 }
 
-fn part<'a>(code: &'a [u8], exports: &'a [Symbol], relocs: &'a [Field]) -> Part<'a> {
-    Part {
-        code,
-        init: &[],
-        bss: 0,
-        exports,
-        relocs,
-    }
+// What a set answers with eight of one component, and these two behind them.
+fn fault_of_ten<'a>(
+    alloc: Global,
+    many: Part<'a>,
+    ninth: Part<'a>,
+    tenth: Part<'a>,
+) -> Result<Option<LinkFault>, Fail> {
+    let set = [many, many, many, many, many, many, many, many, ninth, tenth];
+    fault(alloc, &set)
 }
 
-const ZEROS: [u8; 1024] = [0; 1024];
+// The same with the last one twice.
+fn fault_of_eleven<'a>(
+    alloc: Global,
+    many: Part<'a>,
+    ninth: Part<'a>,
+    last: Part<'a>,
+) -> Result<Option<LinkFault>, Fail> {
+    let set = [
+        many, many, many, many, many, many, many, many, ninth, last, last,
+    ];
+    fault(alloc, &set)
+}
 
 // What sets answer with eight times these relocations; with one more and these symbols; and with one more and a symbol that is exported
 // twice.
 fn beyond_relocations<'a>(
     alloc: Global,
+    code: &'a [u8],
     fields: &'a [Field],
     symbols: &'a [Symbol],
 ) -> Result<[Option<LinkFault>; 3], Fail> {
-    let many = part(&ZEROS, &[], fields);
+    let many = part(code, &[], fields);
     let one = part(&[0, 0], &[], &[(0, 0, 26, 10, 5)]);
     let exports = part(&[], symbols, &[]);
     let strong = part(&[], &[(16, 3, 0)], &[]);
-    let symbols_first = [many, many, many, many, many, many, many, many, one, exports];
-    let relocations_first = [
-        many, many, many, many, many, many, many, many, one, strong, strong,
-    ];
     Ok([
         fault(alloc, &[many; 8])?,
-        fault(alloc, &symbols_first)?,
-        fault(alloc, &relocations_first)?,
+        fault_of_ten(alloc, many, one, exports)?,
+        fault_of_eleven(alloc, many, one, strong)?,
     ])
 }
 
 #[test]
 fn most_relocations(rt: HostRuntime) -> Result<(), Fail> {
+    let code = vec![in rt.alloc(); 0; 1024]?;
     let most = fields(rt.alloc(), 1024)?;
     let more = symbols(rt.alloc(), 1025)?;
     assert_eq!(rt;
-        beyond_relocations(rt.alloc(), &most, &more)?,
+        beyond_relocations(rt.alloc(), &code, &most, &more)?,
         [None, Some(Symbols(1025)), Some(Relocations(8193))]
     );
     Ok(())
@@ -148,23 +203,36 @@ fn empty_packages(alloc: Global, count: usize) -> Result<Vec<Bytes>, AllocError>
     Ok(set)
 }
 
+fn empty_may_be_linked(alloc: Global, count: usize) -> Result<bool, AllocError> {
+    let set = empty_packages(alloc, count)?;
+    may_be_linked(alloc, &set)
+}
+
+// Whether components of nothing with these numbers may be linked.
+fn numbered_may_be_linked(alloc: Global, numbers: &[usize]) -> Result<bool, AllocError> {
+    let mut set = Vec::new(alloc);
+    for number in numbers {
+        set.push(package(alloc, *number, &NOTHING)?)?;
+    }
+    may_be_linked(alloc, &set)
+}
+
+// Whether a component with code of one byte may be linked.
+fn odd_may_be_linked(alloc: Global) -> Result<bool, AllocError> {
+    let odd = part(&[0], &[], &[]);
+    let set = Vec::from_array(alloc, [package(alloc, 1, &odd)?])?;
+    may_be_linked(alloc, &set)
+}
+
 #[test]
 fn what_may_be_linked(rt: HostRuntime) -> Result<(), Fail> {
-    let set = empty_packages(rt.alloc(), 16)?;
-    assert!(rt; may_be_linked(rt.alloc(), &set)?);
-    let set = empty_packages(rt.alloc(), 17)?;
-    assert!(rt; !may_be_linked(rt.alloc(), &set)?, "seventeen packages");
-    let mut twice = Vec::new(rt.alloc());
-    for number in [7, 8, 7] {
-        twice.push(package(rt.alloc(), number, &NOTHING)?)?;
-    }
-    assert!(rt; !may_be_linked(rt.alloc(), &twice)?, "component 7 twice");
-    let odd = Part {
-        code: &[0],
-        ..NOTHING
-    };
-    let faulty = Vec::from_array(rt.alloc(), [package(rt.alloc(), 1, &odd)?])?;
-    assert!(rt; !may_be_linked(rt.alloc(), &faulty)?, "code of one byte");
+    assert!(rt; empty_may_be_linked(rt.alloc(), 16)?);
+    assert!(rt; !empty_may_be_linked(rt.alloc(), 17)?, "seventeen packages");
+    assert!(rt;
+        !numbered_may_be_linked(rt.alloc(), &[7, 8, 7])?,
+        "component 7 twice"
+    );
+    assert!(rt; !odd_may_be_linked(rt.alloc())?, "code of one byte");
     Ok(())
 }
 
@@ -199,6 +267,10 @@ const SPOKEN: [Spoken; 9] = [
     (Memory, 8, "there is no memory"),
 ];
 
+fn spoken() -> &'static [Spoken] {
+    &SPOKEN
+}
+
 fn is_spoken(alloc: Global, row: &Spoken) -> Result<bool, AllocError> {
     let (fault, number, words) = *row;
     let shown = format!(in alloc; "{fault}")?;
@@ -217,6 +289,6 @@ fn first_misspoken(alloc: Global, rows: &[Spoken]) -> Result<Option<usize>, Allo
 
 #[test]
 fn fault_numbers_and_words(rt: HostRuntime) -> Result<(), Fail> {
-    assert_eq!(rt; first_misspoken(rt.alloc(), &SPOKEN)?, None);
+    assert_eq!(rt; first_misspoken(rt.alloc(), spoken())?, None);
     Ok(())
 }

@@ -112,20 +112,29 @@ fn a_manifest_is_written_again(rt: HostRuntime) -> Result<(), Fail> {
     Ok(())
 }
 
-// The pages of release 3 with component 7 in slot 31.
-fn worked_pages() -> [[u8; 256]; 5] {
-    let mut pages = [[0; 256]; 5];
-    let mut head = [0; 256];
+fn zeros() -> [u8; 256] {
+    [0; 256]
+}
+
+fn head_page() -> [u8; 256] {
+    let mut head = zeros();
     head[0] = 3;
     head[4] = 1;
-    let mut entries = [0; 256];
+    head
+}
+
+fn entries_page() -> [u8; 256] {
+    let mut entries = zeros();
     entries[0] = 7;
     entries[2] = 2;
     entries[4] = 32;
     entries[38] = 31;
-    pages[0] = head;
-    pages[1] = entries;
-    pages
+    entries
+}
+
+// The pages of release 3 with component 7 in slot 31.
+fn worked_pages() -> [[u8; 256]; 5] {
+    [head_page(), entries_page(), zeros(), zeros(), zeros()]
 }
 
 // Whether a stored manifest is written as these pages.

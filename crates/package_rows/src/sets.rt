@@ -1,10 +1,11 @@
 //! Linked sets, and causes in their order.
 
+use crate::changes::change;
 use crate::parts::{NOTHING, Part, RETURN, fault, linked};
 use avr_reloc::RangeFault;
 use full_linker::LinkFault;
 use full_linker::LinkFault::{Duplicate, Range, Undefined};
-use std::alloc::Global;
+use std::alloc::{AllocError, Global};
 use std::test::Fail;
 
 // A jump to itself behind a call of symbol 16, and a return that is symbol 16.
@@ -121,8 +122,13 @@ fn first_other(alloc: Global, rows: &[Refused]) -> Result<Option<usize>, Fail> {
 }
 
 #[test]
-fn worked_sets(rt: HostRuntime) -> Result<(), Fail> {
+fn worked_images(rt: HostRuntime) -> Result<(), Fail> {
     assert_eq!(rt; first_unlike(rt.alloc(), &IMAGES)?, None);
+    Ok(())
+}
+
+#[test]
+fn worked_faults(rt: HostRuntime) -> Result<(), Fail> {
     assert_eq!(rt; first_other(rt.alloc(), &FAULTS)?, None);
     Ok(())
 }
@@ -185,25 +191,31 @@ fn targets(rt: HostRuntime) -> Result<(), Fail> {
     Ok(())
 }
 
+// Code whose call begins in the first page and ends in the second.
+fn code_over_a_page(alloc: Global) -> Result<Vec<u8>, AllocError> {
+    let mut code = vec![in alloc; 0; 260]?;
+    change(&mut code, &[(0xFE, 0x0E), (0xFF, 0x94)]);
+    Ok(code)
+}
+
+fn is_called_over_a_page(alloc: Global, code: &[u8]) -> Result<bool, Fail> {
+    let part = Part {
+        code,
+        init: &[],
+        bss: 0,
+        exports: &[],
+        relocs: &[(0xFE, 0, 18, 0, 0x1234)],
+    };
+    match linked(alloc, &[part])? {
+        Ok(image) => Ok(image.get(0xFE..0x102) == Some([0x0E, 0x94, 0x1A, 9].as_slice())),
+        Err(_) => Ok(false),
+    }
+}
+
 #[test]
 fn a_field_over_a_page(rt: HostRuntime) -> Result<(), Fail> {
-    let mut code = vec![in rt.alloc(); 0; 260]?;
-    if let Some(x) = code.get_mut(0xFE) {
-        *x = 0x0E;
-    }
-    if let Some(x) = code.get_mut(0xFF) {
-        *x = 0x94;
-    }
-    let part = Part {
-        code: &code,
-        relocs: &[(0xFE, 0, 18, 0, 0x1234)],
-        ..NOTHING
-    };
-    let image = linked(rt.alloc(), &[part])?.ok().ok_or("an image")?;
-    assert_eq!(rt;
-        image.get(0xFE..0x102),
-        Some([0x0E, 0x94, 0x1A, 9].as_slice())
-    );
+    let code = code_over_a_page(rt.alloc())?;
+    assert!(rt; is_called_over_a_page(rt.alloc(), &code)?);
     Ok(())
 }
 
