@@ -194,58 +194,108 @@ fn commit(alloc: Global) -> Result<Vec<u8>, AllocError> {
     Ok(bytes)
 }
 
-#[test]
-fn sets_are_linked_or_refused(rt: HostRuntime) -> Result<(), Fail> {
-    let commit = commit(rt.alloc())?;
-    for row in ROWS {
-        let packages = packages(rt.alloc(), row.parts)?;
-        let input = brought(rt.alloc(), packages.as_slice())?;
-        for chunk in [1, 1000] {
-            let board = ran(rt.alloc(), input.as_slice(), chunk)?;
-            assert!(rt; ends(board.sent_bytes(), row.line), "{:?}", row.line);
-            assert!(rt; has_program(&board, &[]), "{:?}", row.line);
-            let (board, status) = session(rt.alloc(), board, commit.as_slice(), chunk)?;
-            assert_eq!(rt; status, 0);
-            if row.image.is_empty() {
-                assert_eq!(rt;
-                    board.sent_bytes(),
-                    b"booted 0\nnot linked\nbooted 0\n".as_slice()
-                );
-            } else {
-                let is_linked = is_linked(&board, row.symbols, row.relocations, row.image);
-                assert!(rt; is_linked, "{:?}", row.image);
-                assert_eq!(rt;
-                    board.sent_bytes(),
-                    b"booted 0\ncommitted 1\nbooted 1\n".as_slice()
-                );
-            }
-            assert!(rt; has_program(&board, row.image), "{:?}", row.image);
+// Whether LINK was answered with this line, and the program is as it was.
+fn is_brought(board: &MemoryBoard, line: &[u8]) -> bool {
+    ends(board.sent_bytes(), line) && has_program(board, &[])
+}
+
+// Whether COMMIT and BOOT installed the row's image, where it has one.
+fn is_installed(board: &MemoryBoard, row: &Row<'_>) -> bool {
+    if row.image.is_empty() {
+        return board.sent_bytes() == b"booted 0\nnot linked\nbooted 0\n".as_slice();
+    }
+    is_linked(board, row.symbols, row.relocations, row.image)
+        && board.sent_bytes() == b"booted 0\ncommitted 1\nbooted 1\n".as_slice()
+}
+
+fn is_row_of(alloc: Global, row: &Row<'_>, input: &[u8], chunk: u16) -> Result<bool, Fail> {
+    let commit = commit(alloc)?;
+    let board = ran(alloc, input, chunk)?;
+    let is_brought = is_brought(&board, row.line);
+    let (board, status) = session(alloc, board, commit.as_slice(), chunk)?;
+    Ok(is_brought && status == 0 && is_installed(&board, row) && has_program(&board, row.image))
+}
+
+fn is_row(alloc: Global, row: &Row<'_>) -> Result<bool, Fail> {
+    let packages = packages(alloc, row.parts)?;
+    let input = brought(alloc, packages.as_slice())?;
+    Ok(
+        is_row_of(alloc, row, input.as_slice(), 1)?
+            && is_row_of(alloc, row, input.as_slice(), 1000)?,
+    )
+}
+
+// The first of these rows that is wrong.
+fn wrong_row(alloc: Global, rows: &[Row<'_>]) -> Result<Option<usize>, Fail> {
+    for (i, row) in rows.iter().enumerate() {
+        if !is_row(alloc, row)? {
+            return Ok(Some(i));
         }
     }
-    Ok(())
+    Ok(None)
 }
 
 #[test]
-fn a_field_over_the_end_of_a_page(rt: HostRuntime) -> Result<(), Fail> {
-    // A call at byte 0xFE of 260, of its own code and 0x1234.
+fn sets_are_linked_or_refused(rt: HostRuntime) -> Result<(), Fail> {
+    assert_eq!(rt; wrong_row(rt.alloc(), &ROWS)?, None);
+    Ok(())
+}
+
+// Whether LINK, in a session on this input, is answered with this line.
+fn answers(alloc: Global, input: &[u8], chunk: u16, line: &[u8]) -> Result<bool, Fail> {
+    let board = ran(alloc, input, chunk)?;
+    Ok(ends(board.sent_bytes(), line))
+}
+
+// The same for inputs that come in single bytes and in long pieces.
+fn answers_both(alloc: Global, input: &[u8], line: &[u8]) -> Result<bool, Fail> {
+    Ok(answers(alloc, input, 1, line)? && answers(alloc, input, 1000, line)?)
+}
+
+// 256 bytes of code of which the last two begin a call.
+fn code_with_call() -> [u8; 256] {
     let mut code = [0u8; 256];
     code[254] = 0x0E;
     code[255] = 0x94;
+    code
+}
+
+// A component with this code and four zeros behind it, and a call at byte 0xFE of its own code and 0x1234.
+fn with_call(alloc: Global, code: &[u8]) -> Result<Vec<u8>, AllocError> {
     let part = Part {
-        code: &code,
+        code,
         more: 4,
         relocs: &[[0xFE, 0, 0, 18, 0, 0, 0x34, 0x12]],
         ..RETURN
     };
-    let packages = packages(rt.alloc(), &[part])?;
-    let input = brought(rt.alloc(), packages.as_slice())?;
-    let mut image = code.to_vec(rt.alloc())?;
+    let bytes = package(alloc, &part)?;
+    Ok(bytes)
+}
+
+// The release of this component alone, and its image.
+fn over_the_end(alloc: Global) -> Result<(Vec<u8>, Vec<u8>), AllocError> {
+    let code = code_with_call();
+    let package = with_call(alloc, &code)?;
+    let input = brought(alloc, &[package])?;
+    let mut image = code.to_vec(alloc)?;
     image.extend_from_slice(&[0x1A, 0x09, 0, 0])?;
+    Ok((input, image))
+}
+
+fn is_over_the_end(alloc: Global, chunk: u16) -> Result<bool, Fail> {
+    let (input, image) = over_the_end(alloc)?;
+    let board = ran(alloc, input.as_slice(), chunk)?;
+    let relocations = [0xFE, 0, 0, 18, 0x34, 0x12, 0, 0];
+    Ok(
+        ends(board.sent_bytes(), b"\npiece 0 1\nlinked 1\n")
+            && is_linked(&board, &[], &relocations, image.as_slice()),
+    )
+}
+
+#[test]
+fn a_field_over_the_end_of_a_page(rt: HostRuntime) -> Result<(), Fail> {
     for chunk in [1, 1000] {
-        let board = ran(rt.alloc(), input.as_slice(), chunk)?;
-        assert!(rt; ends(board.sent_bytes(), b"\npiece 0 1\nlinked 1\n"));
-        let relocations = [0xFE, 0, 0, 18, 0x34, 0x12, 0, 0];
-        assert!(rt; is_linked(&board, &[], &relocations, image.as_slice()));
+        assert!(rt; is_over_the_end(rt.alloc(), chunk)?);
     }
     Ok(())
 }
@@ -283,19 +333,33 @@ pub(crate) fn greatest(alloc: Global) -> Result<(Vec<u8>, Vec<u8>), AllocError> 
     Ok((input, image))
 }
 
+fn has_greatest(alloc: Global, input: &[u8], image: &[u8], chunk: u16) -> Result<bool, Fail> {
+    let board = ran(alloc, input, chunk)?;
+    Ok(ends(board.sent_bytes(), b"\npiece 15 30\nlinked 1\n") && is_linked(&board, &[], &[], image))
+}
+
+fn is_greatest(alloc: Global) -> Result<bool, Fail> {
+    let (input, image) = greatest(alloc)?;
+    let is_full = image.len() == 122_880;
+    Ok(
+        is_full
+            && has_greatest(alloc, input.as_slice(), image.as_slice(), 1)?
+            && has_greatest(alloc, input.as_slice(), image.as_slice(), 1000)?,
+    )
+}
+
+// Whether an image of one word more is refused.
+fn is_too_great(alloc: Global) -> Result<bool, Fail> {
+    let (packages, _image) = sixteen(alloc, 2)?;
+    let input = brought(alloc, packages.as_slice())?;
+    let is_refused = answers_both(alloc, input.as_slice(), b"\npiece 15 30\nflash 122882\n")?;
+    Ok(is_refused)
+}
+
 #[test]
 fn the_greatest_image(rt: HostRuntime) -> Result<(), Fail> {
-    let (input, image) = greatest(rt.alloc())?;
-    assert_eq!(rt; image.len(), 122_880);
-    let (packages, _) = sixteen(rt.alloc(), 2)?;
-    let refused = brought(rt.alloc(), packages.as_slice())?;
-    for chunk in [1, 1000] {
-        let board = ran(rt.alloc(), input.as_slice(), chunk)?;
-        assert!(rt; ends(board.sent_bytes(), b"\npiece 15 30\nlinked 1\n"));
-        assert!(rt; is_linked(&board, &[], &[], image.as_slice()));
-        let board = ran(rt.alloc(), refused.as_slice(), chunk)?;
-        assert!(rt; ends(board.sent_bytes(), b"\npiece 15 30\nflash 122882\n"));
-    }
+    assert!(rt; is_greatest(rt.alloc())?);
+    assert!(rt; is_too_great(rt.alloc())?);
     Ok(())
 }
 
@@ -323,81 +387,139 @@ fn records(alloc: Global, count: u16) -> Result<Vec<u8>, AllocError> {
     Ok(bytes)
 }
 
+// The release of a return with so many exports, and LINK.
+fn exported(alloc: Global, count: u16) -> Result<Vec<u8>, AllocError> {
+    let package = exporter(alloc, count)?;
+    let input = brought(alloc, &[package])?;
+    Ok(input)
+}
+
+fn has_most(alloc: Global, input: &[u8], records: &[u8], chunk: u16) -> Result<bool, Fail> {
+    let board = ran(alloc, input, chunk)?;
+    Ok(
+        ends(board.sent_bytes(), b"\nlinked 1\n")
+            && has_area(&board, SYMBOLS, SYMBOL_PAGES, records),
+    )
+}
+
+fn are_most(alloc: Global) -> Result<bool, Fail> {
+    let records = records(alloc, 1024)?;
+    let input = exported(alloc, 1024)?;
+    Ok(
+        has_most(alloc, input.as_slice(), records.as_slice(), 1)?
+            && has_most(alloc, input.as_slice(), records.as_slice(), 1000)?,
+    )
+}
+
+// Whether one symbol more is refused.
+fn are_too_many(alloc: Global) -> Result<bool, Fail> {
+    let input = exported(alloc, 1025)?;
+    let is_refused = answers_both(alloc, input.as_slice(), b"\nsymbols 1025\n")?;
+    Ok(is_refused)
+}
+
 #[test]
 fn the_most_symbols(rt: HostRuntime) -> Result<(), Fail> {
-    let rows: [(u16, &[u8]); 2] = [(1024, b"\nlinked 1\n"), (1025, b"\nsymbols 1025\n")];
-    let records = records(rt.alloc(), 1024)?;
-    for (count, line) in rows {
-        let package = exporter(rt.alloc(), count)?;
-        let input = brought(rt.alloc(), &[package])?;
-        for chunk in [1, 1000] {
-            let board = ran(rt.alloc(), input.as_slice(), chunk)?;
-            assert!(rt; ends(board.sent_bytes(), line), "{count}");
-            if count == 1024 {
-                assert!(rt; has_area(&board, SYMBOLS, SYMBOL_PAGES, records.as_slice()));
-            }
-        }
-    }
+    assert!(rt; are_most(rt.alloc())?);
+    assert!(rt; are_too_many(rt.alloc())?);
     Ok(())
 }
 
-// Eight components with 1,024 zeros of code, each byte of which is the number 0 by a relocation; and a ninth with one more, if so.
-fn relocated(alloc: Global, ninth: bool) -> Result<Vec<Vec<u8>>, AllocError> {
+// A relocation of each of 1,024 bytes, by the number 0.
+fn relocations(alloc: Global) -> Result<Vec<[u8; 8]>, AllocError> {
     let mut relocs = Vec::new(alloc);
     for i in 0..1024u16 {
         let [low, high] = i.to_le_bytes();
         relocs.push([low, high, 0, 26, 10, 0, 0, 0])?;
     }
+    Ok(relocs)
+}
+
+// A component with so many zeros of code and these relocations.
+fn zeros(
+    alloc: Global,
+    number: u16,
+    count: u16,
+    relocs: &[[u8; 8]],
+) -> Result<Vec<u8>, AllocError> {
+    let part = Part {
+        number,
+        code: &[],
+        more: count,
+        relocs,
+        ..RETURN
+    };
+    let bytes = package(alloc, &part)?;
+    Ok(bytes)
+}
+
+// Eight components with 1,024 zeros of code and a relocation for each of them; and a ninth with one more, if so.
+fn relocated(alloc: Global, ninth: bool) -> Result<Vec<Vec<u8>>, AllocError> {
+    let relocs = relocations(alloc)?;
     let mut packages = Vec::new(alloc);
     for number in 1..9u16 {
-        let part = Part {
-            number,
-            code: &[],
-            more: 1024,
-            relocs: relocs.as_slice(),
-            ..RETURN
-        };
-        packages.push(package(alloc, &part)?)?;
+        packages.push(zeros(alloc, number, 1024, relocs.as_slice())?)?;
     }
     if ninth {
-        let part = Part {
-            number: 9,
-            code: &[0, 0],
-            relocs: &[[0, 0, 0, 26, 10, 0, 0, 0]],
-            ..RETURN
-        };
-        packages.push(package(alloc, &part)?)?;
+        packages.push(zeros(alloc, 9, 2, &[[0, 0, 0, 26, 10, 0, 0, 0]])?)?;
     }
     Ok(packages)
 }
 
+// Whether the components are linked or refused, with this line.
+fn answers_relocated(alloc: Global, ninth: bool, line: &[u8]) -> Result<bool, Fail> {
+    let packages = relocated(alloc, ninth)?;
+    let input = brought(alloc, packages.as_slice())?;
+    let is_answered = answers_both(alloc, input.as_slice(), line)?;
+    Ok(is_answered)
+}
+
 #[test]
 fn the_most_relocations(rt: HostRuntime) -> Result<(), Fail> {
-    let rows: [(bool, &[u8]); 2] = [(false, b"\nlinked 1\n"), (true, b"\nrelocations 8193\n")];
-    for (ninth, line) in rows {
-        let packages = relocated(rt.alloc(), ninth)?;
-        let input = brought(rt.alloc(), packages.as_slice())?;
-        for chunk in [1, 1000] {
-            let board = ran(rt.alloc(), input.as_slice(), chunk)?;
-            assert!(rt; ends(board.sent_bytes(), line), "{ninth}");
-        }
-    }
+    assert!(rt; answers_relocated(rt.alloc(), false, b"\nlinked 1\n")?);
+    assert!(rt; answers_relocated(rt.alloc(), true, b"\nrelocations 8193\n")?);
     Ok(())
+}
+
+// A page of these eight bytes and 0xFF.
+fn page_with(bytes: &[u8; 8]) -> [u8; 256] {
+    let mut page = [0xFF; 256];
+    for i in 0..8usize {
+        page[i] = bytes[i];
+    }
+    page
 }
 
 // Programs the first page of an area with these eight bytes and 0xFF, and its other pages with 0xFF.
 fn put_area(board: &mut MemoryBoard, first: u16, count: u16, bytes: &[u8; 8]) {
     for i in 0..count {
-        let mut page = [0xFF; 256];
-        if i == 0 {
-            for j in 0..8usize {
-                page[j] = bytes[j];
-            }
-        }
+        let page = if i == 0 {
+            page_with(bytes)
+        } else {
+            page_with(&[0xFF; 8])
+        };
         if first < 1024 && i < 1024 {
             let _programmed = board.ext_program(first + i, &page);
         }
     }
+}
+
+// The pair without LINK.
+fn pair_alone(alloc: Global) -> Result<Vec<u8>, AllocError> {
+    let packages = pair(alloc)?;
+    let mut input = Vec::new(alloc);
+    push_release(alloc, &mut input, 1, packages.as_slice())?;
+    Ok(input)
+}
+
+fn put_symbols(board: &mut MemoryBoard, symbols: &[u8; 8]) {
+    put_area(board, SYMBOLS, SYMBOL_PAGES, symbols);
+    let _opened = open_gate(board, Gate::Sym);
+}
+
+fn put_relocations(board: &mut MemoryBoard, relocations: &[u8; 8]) {
+    put_area(board, RELOCATIONS, RELOCATION_PAGES, relocations);
+    let _opened = open_gate(board, Gate::Rel);
 }
 
 // A board on which the pair came in, with this in the symbol area and the gate open that vouches for it; and with this in the relocation area
@@ -407,37 +529,53 @@ fn foreign(
     symbols: &[u8; 8],
     relocations: Option<[u8; 8]>,
 ) -> Result<MemoryBoard, Fail> {
-    let packages = pair(alloc)?;
-    let mut input = Vec::new(alloc);
-    push_release(alloc, &mut input, 1, packages.as_slice())?;
+    let input = pair_alone(alloc)?;
     let mut board = ran(alloc, input.as_slice(), 1)?;
-    put_area(&mut board, SYMBOLS, SYMBOL_PAGES, symbols);
-    let _opened = open_gate(&mut board, Gate::Sym);
+    put_symbols(&mut board, symbols);
     if let Some(bytes) = relocations {
-        put_area(&mut board, RELOCATIONS, RELOCATION_PAGES, &bytes);
-        let _opened = open_gate(&mut board, Gate::Rel);
+        put_relocations(&mut board, &bytes);
     }
     Ok(board)
+}
+
+fn links_with(board: &mut MemoryBoard, wanted: Answer) -> bool {
+    serve_one(board, LINK, &[]) == Ok(wanted)
+}
+
+// The image of the pair where the first word of the call is this.
+fn image_with(word: u8) -> [u8; 8] {
+    let mut image = IMAGE;
+    image[2] = word;
+    image
+}
+
+const EIGHT: [u8; 8] = [16, 0, 1, 0, 8, 0, 0, 0];
+
+const TEN: [u8; 8] = [0, 0, 0, 18, 10, 0, 0, 0];
+
+// Whether LINK leaves this relocation area and an image with this word, where the symbol is at byte 8 and the relocations are given, or not.
+fn is_foreign(
+    alloc: Global,
+    given: Option<[u8; 8]>,
+    list: &[u8; 8],
+    word: u8,
+) -> Result<bool, Fail> {
+    let mut board = foreign(alloc, &EIGHT, given)?;
+    let links = links_with(&mut board, Answer::Linked(1));
+    Ok(links && is_linked(&board, &EIGHT, list, &image_with(word)))
+}
+
+// Whether LINK finds a symbol undefined that an empty area doesn't have.
+fn is_undefined(alloc: Global) -> Result<bool, Fail> {
+    let mut board = foreign(alloc, &[0xFF; 8], None)?;
+    Ok(links_with(&mut board, Answer::Undefined(0, 0, 16)))
 }
 
 // LINK with the areas that stand in flash, which aren't the set's: it makes only those whose gates are closed, and from those that stand.
 #[test]
 fn areas_that_are_not_the_sets(rt: HostRuntime) -> Result<(), Fail> {
-    let eight = [16, 0, 1, 0, 8, 0, 0, 0];
-    let ten = [0, 0, 0, 18, 10, 0, 0, 0];
-    // The two areas; the relocation area and the first word of the call that LINK leaves.
-    let rows = [(None, [0, 0, 0, 18, 8, 0, 0, 0], 4), (Some(ten), ten, 5)];
-    for (given, list, word) in rows {
-        let mut board = foreign(rt.alloc(), &eight, given)?;
-        assert_eq!(rt; serve_one(&mut board, LINK, &[]), Ok(Answer::Linked(1)));
-        let mut image = IMAGE;
-        image[2] = word;
-        assert!(rt; is_linked(&board, &eight, &list, &image), "{word}");
-    }
-    let mut board = foreign(rt.alloc(), &[0xFF; 8], None)?;
-    assert_eq!(rt;
-        serve_one(&mut board, LINK, &[]),
-        Ok(Answer::Undefined(0, 0, 16))
-    );
+    assert!(rt; is_foreign(rt.alloc(), None, &[0, 0, 0, 18, 8, 0, 0, 0], 4)?);
+    assert!(rt; is_foreign(rt.alloc(), Some(TEN), &TEN, 5)?);
+    assert!(rt; is_undefined(rt.alloc())?);
     Ok(())
 }

@@ -38,40 +38,86 @@ fn is_blank(bytes: &[u8]) -> bool {
     true
 }
 
+// Whether a board that isn't formatted refuses each command but `format`, and other words.
+fn refuses_commands(alloc: Global, board: &mut MemoryBoard) -> Result<bool, AllocError> {
+    Ok(
+        status(alloc, &["status"], board)? == 6
+            && status(alloc, &["image"], board)? == 6
+            && status(alloc, &["walk"], board)? == 64,
+    )
+}
+
+fn refuses_words(alloc: Global, board: &mut MemoryBoard) -> Result<bool, AllocError> {
+    Ok(status(alloc, &["format", "format"], board)? == 64 && status(alloc, &[], board)? == 64)
+}
+
+fn has_done_nothing(board: &MemoryBoard) -> bool {
+    board.sent_bytes().is_empty() && board.program_count() == 0
+}
+
+fn is_formatted(alloc: Global, board: &mut MemoryBoard) -> Result<bool, AllocError> {
+    let status = status(alloc, &["format"], board)?;
+    Ok(
+        status == 0
+            && board.sent_bytes() == b"formatted\n".as_slice()
+            && board.program_count() == 2529,
+    )
+}
+
+fn tells_so(alloc: Global, board: &mut MemoryBoard) -> Result<bool, AllocError> {
+    let status = status(alloc, &["status"], board)?;
+    Ok(status == 0 && board.sent_bytes() == b"formatted\nstatus 0 0 0\n".as_slice())
+}
+
+// Whether behind these two lines a blank image was sent.
+fn has_blank_image(sent: &[u8]) -> bool {
+    sent.len() == 23 + 122_880 && is_blank(&sent[23..])
+}
+
+fn sends_blank_image(alloc: Global, board: &mut MemoryBoard) -> Result<bool, AllocError> {
+    let status = status(alloc, &["image"], board)?;
+    Ok(status == 0 && has_blank_image(board.sent_bytes()) && board.program_count() == 2529)
+}
+
+fn is_new(alloc: Global, board: &mut MemoryBoard) -> Result<bool, AllocError> {
+    Ok(refuses_commands(alloc, board)? && refuses_words(alloc, board)? && has_done_nothing(board))
+}
+
+fn formats(alloc: Global, board: &mut MemoryBoard) -> Result<bool, AllocError> {
+    Ok(is_formatted(alloc, board)? && tells_so(alloc, board)? && sends_blank_image(alloc, board)?)
+}
+
 #[test]
 fn a_new_board_is_formatted_and_tells_so(rt: HostRuntime) -> Result<(), Fail> {
     let mut board = board(rt.alloc(), 0)?;
-    assert_eq!(rt; status(rt.alloc(), &["status"], &mut board)?, 6);
-    assert_eq!(rt; status(rt.alloc(), &["image"], &mut board)?, 6);
-    assert_eq!(rt; status(rt.alloc(), &["walk"], &mut board)?, 64);
-    assert_eq!(rt; status(rt.alloc(), &["format", "format"], &mut board)?, 64);
-    assert_eq!(rt; status(rt.alloc(), &[], &mut board)?, 64);
-    assert_eq!(rt; board.sent_bytes().len(), 0);
-    assert_eq!(rt; board.program_count(), 0);
-    assert_eq!(rt; status(rt.alloc(), &["format"], &mut board)?, 0);
-    assert_eq!(rt; board.sent_bytes(), b"formatted\n".as_slice());
-    assert_eq!(rt; board.program_count(), 2529);
-    assert_eq!(rt; status(rt.alloc(), &["status"], &mut board)?, 0);
-    assert_eq!(rt; board.sent_bytes(), b"formatted\nstatus 0 0 0\n".as_slice());
-    assert_eq!(rt; status(rt.alloc(), &["image"], &mut board)?, 0);
-    let sent = board.sent_bytes();
-    assert!(rt; sent.len() == 23 + 122_880);
-    assert!(rt; is_blank(&sent[23..]));
-    assert_eq!(rt; board.program_count(), 2529);
+    assert!(rt; is_new(rt.alloc(), &mut board)?);
+    assert!(rt; formats(rt.alloc(), &mut board)?);
     Ok(())
+}
+
+// Whether `format` ends with status 4 and without a line where this call fails, and the board isn't formatted then.
+fn ends_format(alloc: Global, call: u32) -> Result<bool, Fail> {
+    let mut board = board(alloc, call)?;
+    let formatting = status(alloc, &["format"], &mut board)?;
+    let is_silent = board.sent_bytes().is_empty();
+    let later = status(alloc, &["status"], &mut board)?;
+    Ok(formatting == 4 && is_silent && later == 6)
+}
+
+// Whether it ends with status 5 where its line fails, and the board is formatted then.
+fn ends_line(alloc: Global) -> Result<bool, Fail> {
+    let mut board = board(alloc, 2531)?;
+    let formatting = status(alloc, &["format"], &mut board)?;
+    let later = status(alloc, &["status"], &mut board)?;
+    Ok(formatting == 5 && later == 0)
 }
 
 #[test]
 fn a_call_that_fails_ends_a_command(rt: HostRuntime) -> Result<(), Fail> {
     // The first program, the first of program flash, the read of Fmt and its program; then the line.
     for call in [1, 2049, 2529, 2530] {
-        let mut board = board(rt.alloc(), call)?;
-        assert_eq!(rt; status(rt.alloc(), &["format"], &mut board)?, 4, "{call}");
-        assert_eq!(rt; board.sent_bytes().len(), 0, "{call}");
-        assert_eq!(rt; status(rt.alloc(), &["status"], &mut board)?, 6, "{call}");
+        assert!(rt; ends_format(rt.alloc(), call)?, "{call}");
     }
-    let mut board = board(rt.alloc(), 2531)?;
-    assert_eq!(rt; status(rt.alloc(), &["format"], &mut board)?, 5);
-    assert_eq!(rt; status(rt.alloc(), &["status"], &mut board)?, 0);
+    assert!(rt; ends_line(rt.alloc())?);
     Ok(())
 }

@@ -3,7 +3,7 @@
 use crate::worked::{
     CALLEE, CALLER, IMAGE, Part, RETURN, command, ends, faultless, formatted, has_area,
     has_program, is_image, package, packages, pair, push_frame, push_manifest, push_piece,
-    push_pieces, ran, session, update,
+    push_pieces, ran, session, update, updated,
 };
 use component_package::areas::{
     RELOCATION_PAGES, RELOCATIONS, SLOT_PAGES, SLOTS, SYMBOL_PAGES, SYMBOLS,
@@ -13,38 +13,83 @@ use flash_pages::MemoryBoard;
 use std::alloc::{AllocError, Global};
 use std::test::Fail;
 
+// The power is back, and the command of this word is done. Also its status.
+fn commanded(
+    alloc: Global,
+    board: MemoryBoard,
+    word: &str,
+    chunk: u16,
+) -> Result<(MemoryBoard, u8), Fail> {
+    let mut board = board.restart(alloc, &[], faultless(alloc, chunk))?;
+    let status = command(alloc, &mut board, word)?;
+    Ok((board, status))
+}
+
+// A command, its status and its lines.
+type Row = (&'static str, u8, &'static [u8]);
+
+const COMMANDS: [Row; 8] = [
+    ("run", 6, b""),
+    ("status", 6, b""),
+    ("image", 6, b""),
+    ("walk", 64, b""),
+    ("format", 0, b"formatted\n"),
+    ("run", 0, b"booted 0\n"),
+    ("status", 0, b"status 0 0 0\n"),
+    ("walk", 64, b""),
+];
+
+// Whether the row's command ends as it is to.
+fn is_row(
+    alloc: Global,
+    board: MemoryBoard,
+    row: Row,
+    chunk: u16,
+) -> Result<(MemoryBoard, bool), Fail> {
+    let (word, wanted, lines) = row;
+    let (board, status) = commanded(alloc, board, word, chunk)?;
+    let is_row = status == wanted && board.sent_bytes() == lines;
+    Ok((board, is_row))
+}
+
+// The first of these rows that is wrong, of commands on one new board; their number where they leave a program.
+fn wrong_command(alloc: Global, rows: &[Row], chunk: u16) -> Result<Option<usize>, Fail> {
+    let mut board = MemoryBoard::new(alloc, &[], faultless(alloc, chunk), 2600, 100)?;
+    for (i, row) in rows.iter().enumerate() {
+        let (next, is_row) = is_row(alloc, board, *row, chunk)?;
+        board = next;
+        if !is_row {
+            return Ok(Some(i));
+        }
+    }
+    Ok(if has_program(&board, &[]) {
+        None
+    } else {
+        Some(rows.len())
+    })
+}
+
 #[test]
 fn commands_on_a_new_board(rt: HostRuntime) -> Result<(), Fail> {
     for chunk in [1, 1000] {
-        let mut board = MemoryBoard::new(rt.alloc(), &[], faultless(rt.alloc(), chunk), 2600, 100)?;
-        let rows: [(&str, u8, &[u8]); 8] = [
-            ("run", 6, b""),
-            ("status", 6, b""),
-            ("image", 6, b""),
-            ("walk", 64, b""),
-            ("format", 0, b"formatted\n"),
-            ("run", 0, b"booted 0\n"),
-            ("status", 0, b"status 0 0 0\n"),
-            ("walk", 64, b""),
-        ];
-        for (word, status, sent) in rows {
-            board = board.restart(rt.alloc(), &[], faultless(rt.alloc(), chunk))?;
-            assert_eq!(rt; command(rt.alloc(), &mut board, word)?, status, "{word}");
-            assert_eq!(rt; board.sent_bytes(), sent, "{word}");
-        }
-        assert!(rt; has_program(&board, &[]));
+        assert_eq!(rt; wrong_command(rt.alloc(), &COMMANDS, chunk)?, None);
     }
     Ok(())
+}
+
+// Whether the command of this word ends with this status, and without a line, where the first call fails.
+fn fails_at_once(alloc: Global, word: &str, wanted: u8) -> Result<bool, Fail> {
+    let mut plan = faultless(alloc, 1);
+    plan.fail.push(1)?;
+    let mut board = MemoryBoard::new(alloc, &[], plan, 0, 100)?;
+    let status = command(alloc, &mut board, word)?;
+    Ok(status == wanted && board.sent_bytes().is_empty())
 }
 
 #[test]
 fn a_board_whose_first_page_cannot_be_read(rt: HostRuntime) -> Result<(), Fail> {
     for (word, status) in [("run", 4), ("status", 4), ("image", 4), ("walk", 64)] {
-        let mut plan = faultless(rt.alloc(), 1);
-        plan.fail.push(1)?;
-        let mut board = MemoryBoard::new(rt.alloc(), &[], plan, 0, 100)?;
-        assert_eq!(rt; command(rt.alloc(), &mut board, word)?, status, "{word}");
-        assert_eq!(rt; board.sent_bytes(), b"".as_slice(), "{word}");
+        assert!(rt; fails_at_once(rt.alloc(), word, status)?, "{word}");
     }
     Ok(())
 }
@@ -53,46 +98,82 @@ fn a_board_whose_first_page_cannot_be_read(rt: HostRuntime) -> Result<(), Fail> 
 const UPDATED: &[u8] =
     b"booted 0\nmanifest 1 0\npiece 0 0\npiece 1 0\nlinked 1\ncommitted 1\nbooted 1\n";
 
+fn has_pair(board: &MemoryBoard) -> bool {
+    has_program(board, &IMAGE)
+        && has_area(board, SYMBOLS, SYMBOL_PAGES, &[16, 0, 1, 0, 6, 0, 0, 0])
+        && has_area(
+            board,
+            RELOCATIONS,
+            RELOCATION_PAGES,
+            &[0, 0, 0, 18, 6, 0, 0, 0],
+        )
+}
+
+// A board that took the update of the pair, and whether it has all of it.
+fn first_update(alloc: Global, chunk: u16) -> Result<(MemoryBoard, bool), Fail> {
+    let input = updated(alloc)?;
+    let board = formatted(alloc, 123_000)?;
+    let (board, status) = session(alloc, board, input.as_slice(), chunk)?;
+    let is_whole = status == 0 && board.sent_bytes() == UPDATED && has_pair(&board);
+    Ok((board, is_whole))
+}
+
+// The board after the command that sends the image, and whether it sent that of the pair and programmed nothing.
+fn sends_pair(alloc: Global, board: MemoryBoard, chunk: u16) -> Result<(MemoryBoard, bool), Fail> {
+    let (board, status) = commanded(alloc, board, "image", chunk)?;
+    let is_sent = status == 0 && is_image(board.sent_bytes(), &IMAGE) && board.program_count() == 0;
+    Ok((board, is_sent))
+}
+
+// Whether the first update is whole, and its image is then sent.
+fn is_first_update(alloc: Global, chunk: u16) -> Result<(bool, bool), Fail> {
+    let (board, is_whole) = first_update(alloc, chunk)?;
+    let (_board, is_sent) = sends_pair(alloc, board, chunk)?;
+    Ok((is_whole, is_sent))
+}
+
 #[test]
 fn the_first_update(rt: HostRuntime) -> Result<(), Fail> {
-    let mut input = update(rt.alloc(), 1, pair(rt.alloc())?.as_slice())?;
-    push_frame(&mut input, BOOT, &[])?;
     for chunk in [1, 1000] {
-        let board = formatted(rt.alloc(), 123_000)?;
-        let (board, status) = session(rt.alloc(), board, input.as_slice(), chunk)?;
-        assert_eq!(rt; status, 0);
-        assert_eq!(rt; board.sent_bytes(), UPDATED);
-        assert!(rt; has_program(&board, &IMAGE));
-        assert!(rt; has_area(&board, SYMBOLS, SYMBOL_PAGES, &[16, 0, 1, 0, 6, 0, 0, 0]));
-        assert!(rt;
-            has_area(
-                &board,
-                RELOCATIONS,
-                RELOCATION_PAGES,
-                &[0, 0, 0, 18, 6, 0, 0, 0]
-            )
-        );
-        let mut board = board.restart(rt.alloc(), &[], faultless(rt.alloc(), chunk))?;
-        assert_eq!(rt; command(rt.alloc(), &mut board, "image")?, 0);
-        assert!(rt; is_image(board.sent_bytes(), &IMAGE));
-        assert_eq!(rt; board.program_count(), 0);
+        let (is_whole, is_sent) = is_first_update(rt.alloc(), chunk)?;
+        assert!(rt; is_whole);
+        assert!(rt; is_sent);
     }
     Ok(())
 }
 
+// A board on which a commit of the pair stands, and whether program flash is still empty.
+fn committed(alloc: Global) -> Result<(MemoryBoard, bool), Fail> {
+    let packages = pair(alloc)?;
+    let input = update(alloc, 1, packages.as_slice())?;
+    let board = formatted(alloc, 123_000)?;
+    let (board, _) = session(alloc, board, input.as_slice(), 1000)?;
+    let is_empty = has_program(&board, &[]);
+    Ok((board, is_empty))
+}
+
+// The board after the command that sends its status, and whether that is of a commit.
+fn tells_commit(alloc: Global, board: MemoryBoard) -> Result<(MemoryBoard, bool), Fail> {
+    let (board, status) = commanded(alloc, board, "status", 1)?;
+    let is_told = status == 0 && board.sent_bytes() == b"status 1 0 3\n".as_slice();
+    Ok((board, is_told))
+}
+
+// Whether a commit stands, its status is told, and its image is sent while program flash stays empty.
+fn stands(alloc: Global) -> Result<(bool, bool, bool), Fail> {
+    let (board, was_empty) = committed(alloc)?;
+    let (board, is_told) = tells_commit(alloc, board)?;
+    let (board, is_sent) = sends_pair(alloc, board, 1)?;
+    let is_sent_alone = is_sent && has_program(&board, &[]);
+    Ok((was_empty, is_told, is_sent_alone))
+}
+
 #[test]
 fn the_image_is_sent_while_a_commit_stands(rt: HostRuntime) -> Result<(), Fail> {
-    let input = update(rt.alloc(), 1, pair(rt.alloc())?.as_slice())?;
-    let board = formatted(rt.alloc(), 123_000)?;
-    let (board, _) = session(rt.alloc(), board, input.as_slice(), 1000)?;
-    assert!(rt; has_program(&board, &[]));
-    let mut board = board.restart(rt.alloc(), &[], faultless(rt.alloc(), 1))?;
-    assert_eq!(rt; command(rt.alloc(), &mut board, "status")?, 0);
-    assert_eq!(rt; board.sent_bytes(), b"status 1 0 3\n".as_slice());
-    let mut board = board.restart(rt.alloc(), &[], faultless(rt.alloc(), 1))?;
-    assert_eq!(rt; command(rt.alloc(), &mut board, "image")?, 0);
-    assert!(rt; is_image(board.sent_bytes(), &IMAGE));
-    assert!(rt; has_program(&board, &[]));
+    let (was_empty, is_told, is_sent_alone) = stands(rt.alloc())?;
+    assert!(rt; was_empty);
+    assert!(rt; is_told);
+    assert!(rt; is_sent_alone);
     Ok(())
 }
 
@@ -141,46 +222,80 @@ fn grown() -> Part<'static> {
     }
 }
 
+// The update that installs the five, and BOOT.
+fn install_five(alloc: Global) -> Result<Vec<u8>, AllocError> {
+    let five = [fifth(0), fifth(1), fifth(2), fifth(3), fifth(4)];
+    let first = packages(alloc, &five)?;
+    let mut bytes = update(alloc, 1, first.as_slice())?;
+    push_frame(&mut bytes, BOOT, &[])?;
+    Ok(bytes)
+}
+
+// The manifest of the second release.
+fn push_second(alloc: Global, into: &mut Vec<u8>) -> Result<(), AllocError> {
+    let five = [fifth(0), fifth(1), grown(), fifth(3), fifth(4)];
+    let second = packages(alloc, &five)?;
+    push_manifest(alloc, into, 2, second.as_slice())?;
+    Ok(())
+}
+
+// The pieces of the component that is new, and two of one that is held, the first with a byte where 256 are due.
+fn push_new_and_held(alloc: Global, into: &mut Vec<u8>) -> Result<(), AllocError> {
+    let new = package(alloc, &grown())?;
+    let held = package(alloc, &fifth(0))?;
+    push_pieces(alloc, into, 2, new.as_slice())?;
+    push_frame(into, PIECE, &[0, 0, 1])?;
+    push_piece(alloc, into, 0, 0, held.as_slice())?;
+    Ok(())
+}
+
+fn push_link_and_commit(into: &mut Vec<u8>) -> Result<(), AllocError> {
+    push_frame(into, LINK, &[])?;
+    push_frame(into, COMMIT, &[])?;
+    push_frame(into, BOOT, &[])?;
+    Ok(())
+}
+
+fn replace_third(alloc: Global) -> Result<Vec<u8>, AllocError> {
+    let mut bytes = Vec::new(alloc);
+    push_second(alloc, &mut bytes)?;
+    push_new_and_held(alloc, &mut bytes)?;
+    push_link_and_commit(&mut bytes)?;
+    Ok(bytes)
+}
+
+// A board on which the five were installed, and whether it says so and holds their image.
+fn with_five(alloc: Global, chunk: u16) -> Result<(MemoryBoard, bool), Fail> {
+    let image = image_of_five(alloc, 1000, [0xD0, 7])?;
+    let install = install_five(alloc)?;
+    let board = ran(alloc, install.as_slice(), chunk)?;
+    let is_installed = ends(board.sent_bytes(), b"linked 1\ncommitted 1\nbooted 1\n")
+        && has_program(&board, image.as_slice());
+    Ok((board, is_installed))
+}
+
+// Whether one of them is then replaced.
+fn is_replaced(alloc: Global, board: MemoryBoard, chunk: u16) -> Result<bool, Fail> {
+    let image = image_of_five(alloc, 1300, [0x66, 8])?;
+    let replace = replace_third(alloc)?;
+    let (board, status) = session(alloc, board, replace.as_slice(), chunk)?;
+    Ok(status == 0 && board.sent_bytes() == REPLACED && has_program(&board, image.as_slice()))
+}
+
+fn is_installed_and_replaced(alloc: Global, chunk: u16) -> Result<(bool, bool), Fail> {
+    let (board, is_installed) = with_five(alloc, chunk)?;
+    let is_replaced = is_replaced(alloc, board, chunk)?;
+    Ok((is_installed, is_replaced))
+}
+
 #[test]
 fn one_component_is_replaced(rt: HostRuntime) -> Result<(), Fail> {
-    let five = [fifth(0), fifth(1), fifth(2), fifth(3), fifth(4)];
-    let first = packages(rt.alloc(), &five)?;
-    let second = packages(
-        rt.alloc(),
-        &[fifth(0), fifth(1), grown(), fifth(3), fifth(4)],
-    )?;
-    let held = package(rt.alloc(), &fifth(0))?;
     let third = package(rt.alloc(), &grown())?;
     assert_eq!(rt; third.len(), 1332);
-    let mut install = update(rt.alloc(), 1, first.as_slice())?;
-    push_frame(&mut install, BOOT, &[])?;
-    let mut replace = Vec::new(rt.alloc());
-    push_manifest(rt.alloc(), &mut replace, 2, second.as_slice())?;
-    push_pieces(rt.alloc(), &mut replace, 2, third.as_slice())?;
-    // Two pieces of a component that is held, the first with a byte where 256 are due.
-    push_frame(&mut replace, PIECE, &[0, 0, 1])?;
-    push_piece(rt.alloc(), &mut replace, 0, 0, held.as_slice())?;
-    push_frame(&mut replace, LINK, &[])?;
-    push_frame(&mut replace, COMMIT, &[])?;
-    push_frame(&mut replace, BOOT, &[])?;
     for chunk in [1, 1000] {
-        let board = ran(rt.alloc(), install.as_slice(), chunk)?;
-        assert!(rt; ends(board.sent_bytes(), b"linked 1\ncommitted 1\nbooted 1\n"));
-        assert!(rt;
-            has_program(
-                &board,
-                image_of_five(rt.alloc(), 1000, [0xD0, 7])?.as_slice()
-            )
-        );
-        let (board, status) = session(rt.alloc(), board, replace.as_slice(), chunk)?;
-        assert_eq!(rt; status, 0);
-        assert_eq!(rt; board.sent_bytes(), REPLACED);
-        assert!(rt;
-            has_program(
-                &board,
-                image_of_five(rt.alloc(), 1300, [0x66, 8])?.as_slice()
-            )
-        );
+        let (is_installed, is_replaced) = is_installed_and_replaced(rt.alloc(), chunk)?;
+        assert!(rt; is_installed);
+        assert!(rt; is_replaced);
     }
     Ok(())
 }
@@ -194,25 +309,46 @@ piece 2 5\nbad piece\nheld 0\nlinked 2\ncommitted 2\nbooted 2\n";
 fn push_round(alloc: Global, into: &mut Vec<u8>, order: [u8; 2]) -> Result<(), AllocError> {
     push_manifest(alloc, into, 1, pair(alloc)?.as_slice())?;
     for k in order {
-        let package: &[u8] = if k == 0 { &CALLER } else { &CALLEE };
+        let package: &[u8] = if k == 0 { CALLER } else { CALLEE };
         push_pieces(alloc, into, k, package)?;
     }
     push_frame(into, LINK, &[])?;
     Ok(())
 }
 
+// Such a round, and three of them.
+fn once(alloc: Global) -> Result<Vec<u8>, AllocError> {
+    let mut bytes = Vec::new(alloc);
+    push_round(alloc, &mut bytes, [0, 1])?;
+    Ok(bytes)
+}
+
+fn thrice(alloc: Global) -> Result<Vec<u8>, AllocError> {
+    let mut bytes = once(alloc)?;
+    push_round(alloc, &mut bytes, [1, 0])?;
+    push_round(alloc, &mut bytes, [1, 0])?;
+    Ok(bytes)
+}
+
+// Whether a session on all three has these lines, and how many programs there were.
+fn programs_of_three(alloc: Global, chunk: u16) -> Result<(bool, u32), Fail> {
+    let input = thrice(alloc)?;
+    let board = ran(alloc, input.as_slice(), chunk)?;
+    Ok((board.sent_bytes() == THRICE, board.program_count()))
+}
+
+fn programs_of_one(alloc: Global, chunk: u16) -> Result<u32, Fail> {
+    let input = once(alloc)?;
+    let board = ran(alloc, input.as_slice(), chunk)?;
+    Ok(board.program_count())
+}
+
 #[test]
 fn repeated_frames_program_nothing(rt: HostRuntime) -> Result<(), Fail> {
-    let mut once = Vec::new(rt.alloc());
-    push_round(rt.alloc(), &mut once, [0, 1])?;
-    let mut thrice = once.as_slice().to_vec(rt.alloc())?;
-    push_round(rt.alloc(), &mut thrice, [1, 0])?;
-    push_round(rt.alloc(), &mut thrice, [1, 0])?;
     for chunk in [1, 1000] {
-        let linked = ran(rt.alloc(), once.as_slice(), chunk)?;
-        let board = ran(rt.alloc(), thrice.as_slice(), chunk)?;
-        assert_eq!(rt; board.sent_bytes(), THRICE);
-        assert_eq!(rt; board.program_count(), linked.program_count());
+        let (is_answered, programs) = programs_of_three(rt.alloc(), chunk)?;
+        assert!(rt; is_answered);
+        assert_eq!(rt; programs, programs_of_one(rt.alloc(), chunk)?);
     }
     Ok(())
 }
@@ -221,25 +357,59 @@ fn repeated_frames_program_nothing(rt: HostRuntime) -> Result<(), Fail> {
 const THRICE: &[u8] = b"booted 0\nmanifest 1 0\npiece 0 0\npiece 1 0\nlinked 1\n\
 manifest 1 0\npiece 1 0\npiece 0 0\nlinked 1\nmanifest 1 0\npiece 1 0\npiece 0 0\nlinked 1\n";
 
+fn push_manifest_of_pair(alloc: Global, into: &mut Vec<u8>) -> Result<(), AllocError> {
+    let packages = pair(alloc)?;
+    push_manifest(alloc, into, 1, packages.as_slice())?;
+    Ok(())
+}
+
+// Pieces before the manifest, and LINK before the last piece.
+fn push_too_early(alloc: Global, into: &mut Vec<u8>) -> Result<(), AllocError> {
+    push_pieces(alloc, into, 0, CALLER)?;
+    push_manifest_of_pair(alloc, into)?;
+    push_pieces(alloc, into, 0, CALLER)?;
+    push_frame(into, LINK, &[])?;
+    Ok(())
+}
+
+// The last piece; COMMIT before LINK, and behind it.
+fn push_commits(alloc: Global, into: &mut Vec<u8>) -> Result<(), AllocError> {
+    push_pieces(alloc, into, 1, CALLEE)?;
+    push_frame(into, COMMIT, &[])?;
+    push_frame(into, LINK, &[])?;
+    push_frame(into, COMMIT, &[])?;
+    Ok(())
+}
+
+// The manifest, COMMIT and STATUS where a commit stands, and the manifest of a release that has booted.
+fn push_too_late(alloc: Global, into: &mut Vec<u8>) -> Result<(), AllocError> {
+    push_manifest_of_pair(alloc, into)?;
+    push_frame(into, COMMIT, &[])?;
+    push_frame(into, STATUS, &[])?;
+    push_frame(into, BOOT, &[])?;
+    push_manifest_of_pair(alloc, into)?;
+    Ok(())
+}
+
+fn out_of_order(alloc: Global) -> Result<Vec<u8>, AllocError> {
+    let mut bytes = Vec::new(alloc);
+    push_too_early(alloc, &mut bytes)?;
+    push_commits(alloc, &mut bytes)?;
+    push_too_late(alloc, &mut bytes)?;
+    Ok(bytes)
+}
+
+// Whether a session on this input has these lines.
+fn has_lines(alloc: Global, input: &[u8], chunk: u16, lines: &[u8]) -> Result<bool, Fail> {
+    let board = ran(alloc, input, chunk)?;
+    Ok(board.sent_bytes() == lines)
+}
+
 #[test]
 fn frames_out_of_their_order(rt: HostRuntime) -> Result<(), Fail> {
-    let mut input = Vec::new(rt.alloc());
-    push_pieces(rt.alloc(), &mut input, 0, &CALLER)?;
-    push_manifest(rt.alloc(), &mut input, 1, pair(rt.alloc())?.as_slice())?;
-    push_pieces(rt.alloc(), &mut input, 0, &CALLER)?;
-    push_frame(&mut input, LINK, &[])?;
-    push_pieces(rt.alloc(), &mut input, 1, &CALLEE)?;
-    push_frame(&mut input, COMMIT, &[])?;
-    push_frame(&mut input, LINK, &[])?;
-    push_frame(&mut input, COMMIT, &[])?;
-    push_manifest(rt.alloc(), &mut input, 1, pair(rt.alloc())?.as_slice())?;
-    push_frame(&mut input, COMMIT, &[])?;
-    push_frame(&mut input, STATUS, &[])?;
-    push_frame(&mut input, BOOT, &[])?;
-    push_manifest(rt.alloc(), &mut input, 1, pair(rt.alloc())?.as_slice())?;
+    let input = out_of_order(rt.alloc())?;
     for chunk in [1, 1000] {
-        let board = ran(rt.alloc(), input.as_slice(), chunk)?;
-        assert_eq!(rt; board.sent_bytes(), OUT_OF_ORDER);
+        assert!(rt; has_lines(rt.alloc(), input.as_slice(), chunk, OUT_OF_ORDER)?);
     }
     Ok(())
 }
@@ -249,30 +419,56 @@ const OUT_OF_ORDER: &[u8] =
     b"booted 0\nno manifest\nmanifest 1 0\npiece 0 0\nmissing 1\npiece 1 0\nnot linked\n\
 linked 1\ncommitted 1\nreboot 1\ncommitted 1\nstatus 1 0 3\nbooted 1\nstale 1\n";
 
+// Returns that are the sixteen components behind this number.
+fn sixteen_behind(alloc: Global, before: u16) -> Result<Vec<Vec<u8>>, AllocError> {
+    let mut packages = Vec::new(alloc);
+    for i in 1..17u16 {
+        let number = before.wrapping_add(i);
+        packages.push(package(alloc, &Part { number, ..RETURN })?)?;
+    }
+    Ok(packages)
+}
+
+// The update of such sixteen.
+fn update_of_sixteen(alloc: Global, release: u8, before: u16) -> Result<Vec<u8>, AllocError> {
+    let packages = sixteen_behind(alloc, before)?;
+    let bytes = update(alloc, release, packages.as_slice())?;
+    Ok(bytes)
+}
+
+// The update of sixteen components, BOOT, and that of sixteen others.
+fn sixteen_twice(alloc: Global) -> Result<Vec<u8>, AllocError> {
+    let mut bytes = update_of_sixteen(alloc, 1, 0)?;
+    push_frame(&mut bytes, BOOT, &[])?;
+    let others = update_of_sixteen(alloc, 2, 16)?;
+    bytes.extend_from_slice(others.as_slice())?;
+    Ok(bytes)
+}
+
+// The first slot that doesn't hold the component behind its own number.
+fn wrong_slot(board: &MemoryBoard) -> Option<u16> {
+    for slot in 0..32u16 {
+        let page = board.ext_page(SLOTS + SLOT_PAGES * slot);
+        if !page.starts_with(&[0x46, 0x43, 0x50, 0x31, slot as u8 + 1, 0]) {
+            return Some(slot);
+        }
+    }
+    None
+}
+
+// Whether a session on the two updates has its lines, and the first slot that is wrong behind it.
+fn replaced(alloc: Global, chunk: u16) -> Result<(bool, Option<u16>), Fail> {
+    let input = sixteen_twice(alloc)?;
+    let board = ran(alloc, input.as_slice(), chunk)?;
+    Ok((board.sent_bytes() == ALL_REPLACED, wrong_slot(&board)))
+}
+
 #[test]
 fn all_components_are_replaced(rt: HostRuntime) -> Result<(), Fail> {
-    let mut first = Vec::new(rt.alloc());
-    let mut second = Vec::new(rt.alloc());
-    for number in 1..17u16 {
-        first.push(package(rt.alloc(), &Part { number, ..RETURN })?)?;
-        let number = number + 16;
-        second.push(package(rt.alloc(), &Part { number, ..RETURN })?)?;
-    }
-    let mut input = update(rt.alloc(), 1, first.as_slice())?;
-    push_frame(&mut input, BOOT, &[])?;
-    input.extend_from_slice(update(rt.alloc(), 2, second.as_slice())?.as_slice())?;
     for chunk in [1, 1000] {
-        let board = ran(rt.alloc(), input.as_slice(), chunk)?;
-        assert_eq!(rt; board.sent_bytes(), ALL_REPLACED);
-        for slot in 0..32u16 {
-            let page = board.ext_page(SLOTS + SLOT_PAGES * slot);
-            let number = slot as u8 + 1;
-            assert_eq!(rt;
-                page.get(..6),
-                Some(&[0x46, 0x43, 0x50, 0x31, number, 0][..]),
-                "{slot}"
-            );
-        }
+        let (is_answered, slot) = replaced(rt.alloc(), chunk)?;
+        assert!(rt; is_answered);
+        assert_eq!(rt; slot, None);
     }
     Ok(())
 }

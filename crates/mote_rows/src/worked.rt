@@ -37,16 +37,12 @@ pub(crate) const RETURN: Part<'static> = Part {
 };
 
 /// A jump to itself behind a call of symbol 16: component 1, version 1.
-pub(crate) const CALLER: [u8; 46] = [
-    0x46, 0x43, 0x50, 0x31, 1, 0, 1, 0, 6, 0, 0, 0, 0, 0, 0, 0, 1, 0, 0, 0, 0, 0, 0, 0, 0, 0, 0, 0,
-    0, 0, 0, 0, 0x0E, 0x94, 0, 0, 0xFF, 0xCF, 0, 0, 0, 0x12, 0x10, 0, 0, 0,
-];
+pub(crate) const CALLER: &[u8] =
+    b"FCP1\x01\0\x01\0\x06\0\0\0\0\0\0\0\x01\0\0\0\0\0\0\0\0\0\0\0\0\0\0\0\x0E\x94\0\0\xFF\xCF\0\0\0\x12\x10\0\0\0";
 
 /// A return that is symbol 16: component 2, version 1.
-pub(crate) const CALLEE: [u8; 40] = [
-    0x46, 0x43, 0x50, 0x31, 2, 0, 1, 0, 2, 0, 0, 0, 0, 0, 1, 0, 0, 0, 0, 0, 0, 0, 0, 0, 0, 0, 0, 0,
-    0, 0, 0, 0, 0x08, 0x95, 0x10, 0, 0, 0, 0, 0,
-];
+pub(crate) const CALLEE: &[u8] =
+    b"FCP1\x02\0\x01\0\x02\0\0\0\0\0\x01\0\0\0\0\0\0\0\0\0\0\0\0\0\0\0\0\0\x08\x95\x10\0\0\0\0\0";
 
 /// The image of `CALLER` and `CALLEE`.
 pub(crate) const IMAGE: [u8; 8] = [0x0E, 0x94, 3, 0, 0xFF, 0xCF, 0x08, 0x95];
@@ -230,15 +226,27 @@ pub(crate) fn formatted(alloc: Global, sent: u32) -> Result<MemoryBoard, Fail> {
     Ok(board)
 }
 
-/// The power is back, and a session takes this input. Also its status.
+/// The power is back, and a session takes this input, with this plan. Also its status.
+pub(crate) fn run(
+    alloc: Global,
+    board: MemoryBoard,
+    input: &[u8],
+    plan: BoardPlan,
+) -> Result<(MemoryBoard, u8), Fail> {
+    let mut board = board.restart(alloc, input, plan)?;
+    let status = command(alloc, &mut board, "run")?;
+    Ok((board, status))
+}
+
+/// The same where nothing goes wrong.
 pub(crate) fn session(
     alloc: Global,
     board: MemoryBoard,
     input: &[u8],
     chunk: u16,
 ) -> Result<(MemoryBoard, u8), Fail> {
-    let mut board = board.restart(alloc, input, faultless(alloc, chunk))?;
-    let status = command(alloc, &mut board, "run")?;
+    let plan = faultless(alloc, chunk);
+    let (board, status) = run(alloc, board, input, plan)?;
     Ok((board, status))
 }
 
@@ -250,7 +258,7 @@ pub(crate) fn ran(alloc: Global, input: &[u8], chunk: u16) -> Result<MemoryBoard
 
 /// What came after a session in which something went wrong: how it ended, how the next one ended that had no input, which release that
 /// one started, and whether the update then ended with its release started.
-#[derive(Clone, Copy, Debug, PartialEq, Eq)]
+#[derive(Clone, Copy, PartialEq, Eq)]
 pub(crate) struct Consequence {
     pub(crate) status: u8,
     pub(crate) next: u8,
@@ -277,8 +285,7 @@ pub(crate) fn after(
     plan: BoardPlan,
 ) -> Result<Consequence, Fail> {
     let (board, _) = session(alloc, formatted(alloc, 200)?, before, 1000)?;
-    let mut board = board.restart(alloc, input, plan)?;
-    let status = command(alloc, &mut board, "run")?;
+    let (board, status) = run(alloc, board, input, plan)?;
     let (board, next) = session(alloc, board, &[], 1)?;
     let release = started(&board);
     let again = updated(alloc)?;
@@ -326,15 +333,21 @@ pub(crate) fn is_image(sent: &[u8], bytes: &[u8]) -> bool {
     true
 }
 
+fn blank_page() -> [u8; 256] {
+    [0xFF; 256]
+}
+
+fn write_over(page: &mut [u8], bytes: &[u8]) {
+    for (place, byte) in page.iter_mut().zip(bytes) {
+        *place = *byte;
+    }
+}
+
 // The page of these bytes from this place on, with 0xFF behind them.
 fn page_of(bytes: &[u8], start: usize) -> [u8; 256] {
-    let mut page = [0xFF; 256];
+    let mut page = blank_page();
     if let Some(part) = bytes.get(start..) {
-        for at in 0..256usize {
-            if let Some(byte) = part.get(at) {
-                page[at] = *byte;
-            }
-        }
+        write_over(&mut page, part);
     }
     page
 }
