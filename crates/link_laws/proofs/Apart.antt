@@ -106,14 +106,14 @@ pub wide : (r : Reloc) → 0 < reloc_width r
 wide r = width_positive (shape_of r.kind)
 
 -- two fields of one component share no byte
-within_one : (set : List Component) (k : ℕ) (c : Component) → IsAt set k c → (i j : ℕ) (x y : Reloc) → Fits c x → Fits c y
+pub within_one : (set : List Component) (k : ℕ) (c : Component) → IsAt set k c → (i j : ℕ) (x y : Reloc) → Fits c x → Fits c y
     → position_in c x + reloc_width x ≤ position_in c y → AreApart (field set k i x) (field set k j y)
 within_one set k c h i j x y fx fy after =
     let s = stands set k c h in
     within x.in_init y.in_init (code_base (rooms_of set) k) (load_base (rooms_of set) k) (length c.code) (length c.init) x.offset (reloc_width x) y.offset (reloc_width y) (omega (arith, s.code_low)) (wide x) (wide y) fx fy after
 
 -- nor do fields of two components
-between_two : (set : List Component) (k k' : ℕ) (c c' : Component) → IsAt set k c → IsAt set k' c' → k < k' → (i j : ℕ) (x y : Reloc) → Fits c x → Fits c' y → AreApart (field set k i x) (field set k' j y)
+pub between_two : (set : List Component) (k k' : ℕ) (c c' : Component) → IsAt set k c → IsAt set k' c' → k < k' → (i j : ℕ) (x y : Reloc) → Fits c x → Fits c' y → AreApart (field set k i x) (field set k' j y)
 between_two set k k' c c' h h' lt i j x y fx fy =
     let s = stands set k c h in
     let s' = stands set k' c' h' in
@@ -197,7 +197,7 @@ all_apart set n (c ∷ cs) are sound =
     (all_from_later set n c are.0 (n + 1) cs (omega arith) are.1 sound.1 0 c.relocs sound.0.fits))
 
 -- the fixups of the sites are these
-fixups_flat : (set : List Component) (n : ℕ) (cs : List Component) → map (fixup_of set) (flat_map (λ p. sites_in p.0 p.1) (enumerate_from n cs)) ≡ fixups_from set n cs
+pub fixups_flat : (set : List Component) (n : ℕ) (cs : List Component) → map (fixup_of set) (flat_map (λ p. sites_in p.0 p.1) (enumerate_from n cs)) ≡ fixups_from set n cs
 fixups_flat set n [] = refl
 fixups_flat set n (c ∷ cs) =
     rw (flat_map-cons (λ p. sites_in p.0 p.1) (n, c) (enumerate_from (n + 1) cs), flat_map-cons (λ p. fixups_in set p.0 p.1) (n, c) (enumerate_from (n + 1) cs), map-append, fixups_flat set (n + 1) cs, map-map) refl

@@ -39,7 +39,7 @@ unfolding link_cause
 empty_image = record { possible = refl; bytes = λ i. omega arith; put = record { size = refl; plain = λ at covered. refl; fields = tt } }
 
 -- the pages of the empty set, over an image that is empty
-empty_pages : (image : List ℕ) → image ≡ [] → IsPages [] blank_prog
+pub empty_pages : (image : List ℕ) → image ≡ [] → IsPages [] blank_prog
 empty_pages image is = record {
   image = image;
   is = subst (λ (b : List ℕ). IsImage [] b) (sym is) empty_image;
@@ -55,7 +55,7 @@ zero_pages first count page within =
     ap (λ (l : List (List ℕ)). take count l) (drop-replicate first 2047 (replicate 256 0)) ∙ take-replicate count (2047 - first) (replicate 256 0) (omega arith)
 
 -- pages of zeros joined are zeros
-joined_zeros : (n : ℕ) → concat (replicate n (replicate 256 0)) ≡ replicate (256 * n) 0
+pub joined_zeros : (n : ℕ) → concat (replicate n (replicate 256 0)) ≡ replicate (256 * n) 0
 joined_zeros zero = refl
 joined_zeros (suc n) = ap (λ (l : List ℕ). replicate 256 0 ++ l) (joined_zeros n) ∙ replicate-append-replicate 256 (256 * n) 0 ∙ ap (λ k. replicate k 0) (let e : 256 + 256 * n ≡ 256 * suc n = omega arith in e)
 

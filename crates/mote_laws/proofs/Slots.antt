@@ -15,7 +15,7 @@ use Rattle.mote_laws.specs.Slots.{SlotIsFree, SlotsAreFound}
 -- ---- a slot is free
 
 -- how many of the n numbers from a on are taken
-abbrev taken_among : List ℕ → ℕ → ℕ → ℕ
+abbrev pub taken_among : List ℕ → ℕ → ℕ → ℕ
 taken_among taken a zero = 0
 taken_among taken a (suc n) = cond (is_taken taken a) 1 0 + taken_among taken (a + 1) n
 
@@ -55,12 +55,12 @@ none_taken a zero = refl
 none_taken a (suc n) = omega (arith, none_taken (a + 1) n)
 
 -- no more of them are taken than are taken at all
-taken_at_most : (taken : List ℕ) (a n : ℕ) → taken_among taken a n ≤ length taken
+pub taken_at_most : (taken : List ℕ) (a n : ℕ) → taken_among taken a n ≤ length taken
 taken_at_most [] a n = omega (arith, none_taken a n)
 taken_at_most (t ∷ taken) a n = omega (arith, more_taken t taken a n, one_at_most t a n, taken_at_most taken a n)
 
 -- the first that isn't taken is one of them, or all are
-first_free : (taken : List ℕ) (a n : ℕ) → ((s : ℕ) × (find (λ x. not (is_taken taken x)) (range_with_len a n) ≡ Some s) × (s < a + n) × (is_taken taken s ≡ false)) ⊎ (taken_among taken a n ≡ n)
+pub first_free : (taken : List ℕ) (a n : ℕ) → ((s : ℕ) × (find (λ x. not (is_taken taken x)) (range_with_len a n) ≡ Some s) × (s < a + n) × (is_taken taken s ≡ false)) ⊎ (taken_among taken a n ≡ n)
 first_free taken a zero = inr refl
 first_free taken a (suc n) = at (is_taken taken a) refl (first_free taken (a + 1) n)
   where
@@ -84,7 +84,7 @@ abbrev held_in : List Placed → Entry → Option ℕ
 held_in ps e = option_map (λ p. p.slot) (find (λ p. is_same_entry p.entry e) ps)
 
 -- equal entries are of one component
-same_component : (e f : Entry) → is_same_entry e f ≡ true → e.component ≡ f.component
+pub same_component : (e f : Entry) → is_same_entry e f ≡ true → e.component ≡ f.component
 same_component e f same = eqb-true e.component f.component (and_parts _ _ (and_parts _ _ (and_parts _ _ same).0).0).0
 
 -- a held entry's slot is one of the release's
