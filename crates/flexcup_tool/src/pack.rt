@@ -1,12 +1,17 @@
 //! `pack`: the package of an object.
 
+ghost use Rattle.std.specs.Prelude.{◌≡◌, ◌≤◌, All, IfOk, None, length};
+ghost use Rattle.component_package.specs.packages.Manifest.{AreDistinct};
+ghost use Rattle.object_packer.specs.Names.{names};
+ghost use Rattle.object_packer.specs.Faults.{pack_fault};
+
 use crate::numbering::{Numbering, are_distinct, are_symbols};
 use crate::object::text;
 use anyhow::{Result, bail, ensure};
 use avr_elf::constants::MAX_FILE;
 use avr_elf::{ElfFault, ObjectView, read_object};
 use component_package::write_package;
-use object_packer::{PackFault, names_of, pack};
+use object_packer::{Names, PackFault, names_of, pack};
 use std::alloc::Global;
 use std::fs::{self, File};
 use std::io;
@@ -100,6 +105,52 @@ struct Packed {
     lines: Vec<u8>,
 }
 
+// The names in an object that need numbers. Where the object has a fault, the error says it.
+fn names_in<'a>(alloc: Global, object: &'a ObjectView<'a>, path: &str) -> Result<Names<'a>>
+    ensures names { IfOk result (λ n. n ≡ names object.now) }
+    ensures sound { IfOk result (λ _. pack_fault object.now ≡ None) }
+{
+    match names_of(alloc, object) {
+        Ok(names) => Ok(names),
+        Err(fault) => {
+            let words = pack_words(alloc, object, fault)?;
+            bail!("{path}: {words}")
+        }
+    }
+}
+
+// The numbers of names, which the packer takes.
+fn numbers_for<'a>(
+    alloc: Global,
+    numbering: &mut Numbering<'a>,
+    names: &Names<'a>,
+) -> Result<Vec<u16>>
+    ensures count { IfOk result (λ v. length v.items ≡ length names.now) }
+    ensures different { IfOk result (λ v. AreDistinct v.items) }
+    ensures symbols { IfOk result (λ v. All (λ n. 16 ≤ n) v.items) }
+{
+    let numbers = numbering.numbers_of(alloc, names)?;
+    ensure!(are_distinct(&numbers), "two names have one number");
+    ensure!(are_symbols(&numbers), "a name has a number below 16");
+    Ok(numbers)
+}
+
+// The package of an object whose names have these numbers.
+fn package_bytes<'a>(
+    alloc: Global,
+    object: &'a ObjectView<'a>,
+    request: &Request<'_>,
+    numbers: &[u16],
+) -> Result<Vec<u8>>
+    requires accepted { pack_fault object.now ≡ None }
+    requires count { length numbers.now ≡ length (names object.now) }
+    requires different { AreDistinct numbers.now }
+    requires symbols { All (λ n. 16 ≤ n) numbers.now }
+{
+    let package = pack(alloc, object, request.component, request.version, numbers)?;
+    Ok(write_package(alloc, &package)?)
+}
+
 // The package of an object, where the file of names has this text.
 fn package_of<'a>(
     alloc: Global,
@@ -107,21 +158,11 @@ fn package_of<'a>(
     text: &'a [u8],
     request: &Request<'_>,
 ) -> Result<Packed> {
-    let names = match names_of(alloc, object) {
-        Ok(names) => names,
-        Err(fault) => {
-            let path = request.object;
-            let words = pack_words(alloc, object, fault)?;
-            bail!("{path}: {words}")
-        }
-    };
+    let names = names_in(alloc, object, request.object)?;
     let mut numbering = Numbering::of(alloc, text)?;
-    let numbers = numbering.numbers_of(alloc, &names)?;
-    ensure!(are_distinct(&numbers), "two names have one number");
-    ensure!(are_symbols(&numbers), "a name has a number below 16");
-    let package = pack(alloc, object, request.component, request.version, &numbers)?;
+    let numbers = numbers_for(alloc, &mut numbering, &names)?;
     Ok(Packed {
-        package: write_package(alloc, &package)?,
+        package: package_bytes(alloc, object, request, &numbers)?,
         lines: numbering.added_lines(alloc)?,
     })
 }
