@@ -1,0 +1,7 @@
+pub mod Runs
+pub mod Stored
+pub mod Kept
+pub mod Sides
+pub mod Sound
+pub mod Machine
+pub mod Headline
