@@ -1,7 +1,11 @@
 -- Stored releases as bytes.
-use Rattle.std.proofs.Common.{◌≡◌, ℕ, Bool, List, [], ◌∷◌, ◌++◌, ◌+◌, ◌*◌, ◌^◌, true, false, refl, ap, replicate, take, drop, length, slice_range, arith}
+use Rattle.std.proofs.Common.{◌≡◌, ℕ, Bool, List, [], ◌∷◌, ◌++◌, ◌+◌, ◌*◌, ◌^◌, true, false, refl, ap, replicate, take, drop, length, slice_range, arith, ◌<◌, inl, inr, subst, sym}
 use Rattle.std.specs.Prelude.{slice_index}
+use Rattle.std.proofs.lemmas.Bool.{cases_lt}
+use Rattle.std.proofs.lemmas.List.{get_or-replicate, get_or_past}
+use Rattle.avr_reloc.specs.Field.{AreBytes}
 use Rattle.component_package.specs.declared.manifest.Entry.{Entry}
+use Rattle.component_package.specs.packages.Manifest.{IsManifestEntry}
 use Rattle.component_package.specs.packages.Manifest as first_layout
 use Rattle.kept_definitions.specs.Stored.{Placed, StoredRelease, IsStored, Stores, placed_bytes, stored_bytes, stored_in}
 use Rattle.kept_definitions.proofs.Samples.{empty_release, first, second}
@@ -52,7 +56,35 @@ first_layout_is_none b m n old new =
     let two_there : slice_index b 5 ≡ 2 = layout_is_told b n new in
     omega (arith, zero_there, two_there)
 
--- ---- what is stored by none
+-- ---- which releases there are
+
+-- the digest is bytes
+sevens : AreBytes (replicate 32 7)
+sevens i = elim (cases_lt i 32) [
+  | inl within ↦ subst (λ n. n < 256) (sym (get_or-replicate 32 i 7 0 within)) (omega arith)
+  | inr past ↦ subst (λ n. n < 256) (sym (get_or_past (replicate 32 7) i 0 past)) (omega arith)
+]
+
+good : (low : ℕ) → low < 256 → IsManifestEntry (entry low)
+good low small = record {
+  component = omega (arith, small);
+  version = omega arith;
+  least = omega arith;
+  most = omega arith;
+  digest = refl;
+  bytes = sevens;
+}
+
+-- the five entries are one
+five_is_stored : IsStored five
+five_is_stored = record {
+  number = omega arith;
+  few = omega arith;
+  entries = (good 1 (omega arith), (good 2 (omega arith), (good 3 (omega arith), (good 4 (omega arith), (good 5 (omega arith), tt)))));
+  distinct = (refl, (refl, (refl, (refl, (refl, tt)))));
+  slots = (omega arith, (omega arith, (omega arith, (omega arith, (omega arith, tt)))));
+  apart = (refl, (refl, (refl, (refl, (refl, tt)))));
+}
 
 abbrev one : Placed → StoredRelease
 one p = record { number = 1; placed = p ∷ [] }
