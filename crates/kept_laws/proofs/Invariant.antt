@@ -278,7 +278,7 @@ held_entries (p ∷ ps) [] holds = absurd holds
 held_entries (p ∷ ps) (b ∷ bs) holds = (subst (IsPackageOf p.entry) (sym (said p.entry b holds.0)) (is_package p.entry b holds.0), held_entries ps bs holds.1)
 
 -- the chosen set is its release's, and nothing refuses it
-chosen_whole : (p : Parts) → IsSound p → (b : Bool) → is_pending p ≡ b
+pub chosen_whole : (p : Parts) → IsSound p → (b : Bool) → is_pending p ≡ b
     → (m : StoredRelease) × Stores (chosen_side p) m × AreEntries (record { release = m; set = set_of p m }) × (link_cause (set_of p m) ≡ None)
 unfolding IsInstalled IsGoing
 chosen_whole p sound true is =

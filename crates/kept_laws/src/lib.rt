@@ -11,6 +11,10 @@ ghost use Rattle.kept_laws.specs.Programs.{EachPageIsInOnePart};
 ghost use Rattle.kept_laws.specs.Formatted.{FormattedIsSound};
 ghost use Rattle.kept_laws.specs.Runs.{RefusalsChangeNothing, MachineIsTotal, OnlyItsAnswerChanges, AnswersTellTheCurrent, RunsJoin, CommitsRise, CommitsAreWhole, OnlyCommitsChoose};
 ghost use Rattle.kept_laws.specs.Store.{RunTells, PartsAreCleared, TablesAreFilled, ComingIsFaultless, SlotsAreInOneRow};
+ghost use Rattle.kept_laws.specs.Words.{WordsSayWhatTheyMean, ImageIsTheChosens};
+ghost use Rattle.kept_laws.specs.Standing.{SoundPartsTell, GatesStay};
+ghost use Rattle.kept_laws.specs.Layouts.{LayoutsDiffer};
+ghost use Rattle.kept_laws.specs.Counts.{EachFieldCounts, EachImageCounts, EachGateCounts};
 ghost use Rattle.kept_laws.specs.Clearing.{ClearingGoesOn};
 ghost use Rattle.kept_laws.specs.Held.{InstalledIsReadable};
 ghost use Rattle.kept_laws.specs.Invariant.{MotesStayMotes, SoundIsAMote};
@@ -198,4 +202,44 @@ pub fn sound_is_a_mote()
 /// Inbox slots and table slots stand in one row of places.
 pub fn slots_are_in_one_row()
     ensures { SlotsAreInOneRow }
+{}
+
+/// Where the releases of the sides are known, each word of soundness says what it says of them.
+pub fn words_say_what_they_mean()
+    ensures { WordsSayWhatTheyMean }
+{}
+
+/// The chosen set's image is in program flash where no commit stands, and staged where one does; it is its release's, and nothing refuses it.
+pub fn image_is_the_chosens()
+    ensures { ImageIsTheChosens }
+{}
+
+/// Sound parts aren't unformatted, and what is read of their gates and sides is what their mote holds.
+pub fn sound_parts_tell()
+    ensures { SoundPartsTell }
+{}
+
+/// A gate that is set to what it is changes nothing.
+pub fn gates_stay()
+    ensures { GatesStay }
+{}
+
+/// A board of the first layout is unformatted in the second.
+pub fn layouts_differ()
+    ensures { LayoutsDiffer }
+{}
+
+/// Parts that aren't formatted, are installed twice, or whose chosen set is missing, refused or not in its pages aren't sound.
+pub fn each_field_counts()
+    ensures { EachFieldCounts }
+{}
+
+/// The image that a sound mote boots, or installs, is the only one of its set.
+pub fn each_image_counts()
+    ensures { EachImageCounts }
+{}
+
+/// An open gate with anything missing of what it vouches for isn't sound.
+pub fn each_gate_counts()
+    ensures { EachGateCounts }
 {}
