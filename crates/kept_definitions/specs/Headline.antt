@@ -16,9 +16,11 @@ use Rattle.kept_definitions.specs.Machine.{Mote, session_lines, session_mote, se
 abbrev pub has_incoming : Parts → Bool
 has_incoming p = if is_pending p then false else p.gates man
 
+-- and it is linked where Img is open
 abbrev pub is_linked : Parts → Bool
 is_linked p = if is_pending p then false else p.gates img
 
+-- what comes in is the other side's release
 abbrev pub StandsForIncoming : Parts → Option StoredRelease → Type 0
 StandsForIncoming p None = has_incoming p ≡ false
 StandsForIncoming p (Some m) = (has_incoming p ≡ true) × Stores (other_side p) m
@@ -36,6 +38,7 @@ pub record StandsFor (p : Parts) (s : Mote) : Type 0 where
   pub linked : s.linked ≡ is_linked p
   pub standing : s.standing ≡ is_pending p
 
+-- the parts of what a mote shows
 abbrev pub shown_parts : Shown → Parts
 shown_parts x = parts_of x.prog x.ext
 

@@ -52,10 +52,11 @@ components_in packages = map component_of packages
 
 -- ---- the installed set
 
+-- the run that an entry's table slot begins with
 abbrev pub table_run : List (List ℕ) → Placed → List ℕ
 table_run tables p = run_in_table (slice_index_or tables p.slot [])
 
--- Kept: the packages whose runs the table slots begin with, and whose code and data are taken back from these pages
+-- the packages whose runs the table slots begin with, and whose code and data are taken back from these pages
 unfoldable pub kept_packages : List (List ℕ) → List (List ℕ) → StoredRelease → List (List ℕ)
 kept_packages tables pages m = taken_back (concat pages) (map (table_run tables) m.placed)
 
@@ -65,7 +66,7 @@ kept_packages tables pages m = taken_back (concat pages) (map (table_run tables)
 abbrev pub going_run : List (List ℕ) → List (List ℕ) → Placed → List ℕ
 going_run tables inbox p = if p.fresh then run_in_package (slice_index_or inbox p.slot []) else table_run tables p
 
--- Going: as Kept, from the staged pages
+-- its packages, taken back from the staged pages
 unfoldable pub going_packages : List (List ℕ) → List (List ℕ) → List (List ℕ) → StoredRelease → List (List ℕ)
 going_packages tables inbox staged m = taken_back (concat staged) (map (going_run tables inbox) m.placed)
 
@@ -84,10 +85,11 @@ held_component current e = option_map (λ x. x.1) (find (λ x. is_same_entry x.0
 abbrev pub package_in : List (List ℕ) → Placed → List ℕ
 package_in inbox p = take p.entry.length (slice_index_or inbox p.slot [])
 
+-- a fresh entry has the component that the inbox spells, and another one the component of the current set
 abbrev pub coming_component : Chosen → List (List ℕ) → Placed → Component
 coming_component current inbox p = if p.fresh then component_of (package_in inbox p) else unwrap_or (held_component current p.entry) (component_of [])
 
--- Coming: components that are held are the current set's, and fresh ones are spelled in the inbox
+-- components that are held are the current set's, and fresh ones are spelled in the inbox
 unfoldable pub coming_set : Chosen → List (List ℕ) → StoredRelease → List Component
 coming_set current inbox m = map (coming_component current inbox) m.placed
 
@@ -102,12 +104,15 @@ HasComing current inbox m = AllByRecursion (IsComing current inbox) m.placed
 
 -- ---- why there is none
 
+-- a fresh entry's bytes in the inbox have another digest
 abbrev pub is_missing : List (List ℕ) → Placed → Bool
 is_missing inbox p = p.fresh && not (is_same (sha256 (package_in inbox p)) p.entry.digest)
 
+-- entry k is missing
 abbrev pub missing_at : List (List ℕ) → StoredRelease → ℕ → Option SetFault
 missing_at inbox m k = option_and_then (λ p. if is_missing inbox p then Some (Missing k) else None) (slice_get m.placed k)
 
+-- entry k is fresh, and its bytes in the inbox are no package, or another component's or version's
 abbrev pub bad_package_at : List (List ℕ) → StoredRelease → ℕ → Option SetFault
 bad_package_at inbox m k =
     option_and_then (λ p. if p.fresh then option_map (BadPackage k) (stored_fault p.entry (package_in inbox p)) else None) (slice_get m.placed k)
@@ -122,10 +127,12 @@ set_fault inbox m = option_or (first_fault (missing_at inbox m) (length m.placed
 abbrev pub held_slot : StoredRelease → Entry → Option ℕ
 held_slot current e = option_map (λ p. p.slot) (find (λ p. is_same_entry p.entry e) current.placed)
 
+-- the slots of an entry: one, or none
 abbrev pub slot_list : Option ℕ → List ℕ
 slot_list None = []
 slot_list (Some s) = s ∷ []
 
+-- the slots that entries keep
 abbrev pub held_slots : StoredRelease → List Entry → List ℕ
 held_slots current es = flat_map (λ e. slot_list (held_slot current e)) es
 

@@ -45,9 +45,11 @@ is_incoming (Some m) r = m.number == r.number && is_same_entries (map (λ p. p.e
 abbrev pub held_count : StoredRelease → List Entry → ℕ
 held_count current es = length (filter (λ e. is_some (held_slot current e)) es)
 
+-- the number of the release, and how many of its components are held
 abbrev pub manifest_is : Mote → Release → Answer
 manifest_is s r = answers.ManifestIs r.number (held_count s.current.release r.entries)
 
+-- a bad manifest, a stale release, the one that comes in already, or a new one: it comes in, and is not linked
 abbrev pub take_manifest : Mote → Option ManifestFault → Release → Step
 take_manifest s (Some fault) r = refuses s (answers.BadManifest (number_of_manifest_fault fault))
 take_manifest s None r =
@@ -57,6 +59,7 @@ take_manifest s None r =
 
 -- ---- PIECE
 
+-- a held component's piece, one that is there already, or a new one: it is put in the inbox slot, and the release is not linked
 abbrev pub store_piece : Mote → ℕ → Placed → ℕ → List ℕ → Step
 store_piece s k p page bytes =
     let slot = slice_index_or s.inbox p.slot [] in
@@ -65,6 +68,7 @@ store_piece s k p page bytes =
     else if is_same (slice_range slot (256 * page) (256 * page + 256)) (filled_page bytes) then refuses s done
     else record { mote = record s { inbox = slice_set s.inbox p.slot (with_page_of page bytes slot); linked = false }; answer = done }
 
+-- a piece of an entry that there is, of a page that it has, and of the right length
 abbrev pub take_piece_of : Mote → List ℕ → Option Placed → Step
 take_piece_of s payload None = refuses s answers.BadPiece
 take_piece_of s payload (Some p) =
@@ -72,27 +76,32 @@ take_piece_of s payload (Some p) =
     then store_piece s (slice_index payload 0) p (slice_index payload 1) (drop 2 payload)
     else refuses s answers.BadPiece
 
+-- a piece where something comes in, with an ordinal, a page and a byte at least
 abbrev pub take_piece : Mote → List ℕ → Option StoredRelease → Step
 take_piece s payload None = refuses s answers.NoManifest
 take_piece s payload (Some m) = if nat_lt (length payload) 3 then refuses s answers.BadPiece else take_piece_of s payload (slice_get m.placed (slice_index payload 0))
 
 -- ---- LINK
 
+-- a set that something refuses, or one that is linked
 abbrev pub link_set : Mote → ℕ → Option Cause → Step
 link_set s n (Some cause) = refuses s (cause_answer cause)
 link_set s n None = record { mote = record s { linked = true }; answer = answers.Linked n }
 
+-- what is missing, then what is bad, then what refuses the set
 abbrev pub link_held : Mote → StoredRelease → Option SetFault → Step
 link_held s m (Some (Missing k)) = refuses s (answers.Missing k)
 link_held s m (Some (BadPackage k f)) = refuses s (answers.BadPackage k f)
 link_held s m None = link_set s m.number (link_cause (coming_set s.current s.inbox m))
 
+-- LINK where something comes in: what is linked is not looked at again
 abbrev pub link_incoming : Mote → Option StoredRelease → Step
 link_incoming s None = refuses s answers.NoManifest
 link_incoming s (Some m) = if s.linked then refuses s (answers.Linked m.number) else link_held s m (set_fault s.inbox m)
 
 -- ---- COMMIT, STATUS
 
+-- COMMIT where something comes in: what is linked becomes current with its set, and a commit stands
 abbrev pub commit_incoming : Mote → Option StoredRelease → Step
 commit_incoming s None = refuses s answers.NoManifest
 commit_incoming s (Some m) =
@@ -102,6 +111,7 @@ commit_incoming s (Some m) =
     }
     else refuses s answers.NotLinked
 
+-- the number of the release that comes in, or 0
 abbrev pub incoming_number : Option StoredRelease → ℕ
 incoming_number None = 0
 incoming_number (Some m) = m.number
@@ -131,10 +141,12 @@ step s f =
 
 -- ---- runs: BOOT, followed by frames
 
+-- the mote after frames
 abbrev pub mote_from : Mote → List Frame → Mote
 mote_from s [] = s
 mote_from s (f ∷ fs) = mote_from (step s f).mote fs
 
+-- the answers to frames
 abbrev pub answers_from : Mote → List Frame → List Answer
 answers_from s [] = []
 answers_from s (f ∷ fs) = (step s f).answer ∷ answers_from (step s f).mote fs
@@ -150,15 +162,18 @@ commits_from s (f ∷ fs) =
     let next = (step s f).mote in
     if commits s f then next.current ∷ commits_from next fs else commits_from next fs
 
--- the answers of a session, their lines, the mote after it, and the sets that its commits chose
+-- the answers of a session
 abbrev pub session_answers : Mote → List Frame → List Answer
 session_answers s fs = answers_from s (boot_frame ∷ fs)
 
+-- their lines
 abbrev pub session_lines : Mote → List Frame → List ℕ
 session_lines s fs = flat_map line_of (session_answers s fs)
 
+-- the mote after it
 abbrev pub session_mote : Mote → List Frame → Mote
 session_mote s fs = mote_from s (boot_frame ∷ fs)
 
+-- the sets that its commits chose
 abbrev pub session_commits : Mote → List Frame → List Chosen
 session_commits s fs = commits_from s (boot_frame ∷ fs)

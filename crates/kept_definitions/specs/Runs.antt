@@ -15,6 +15,7 @@ use Rattle.component_package.specs.link.Layout.{Room, code_base, load_base}
 abbrev pub run_of : Component → List ℕ
 run_of c = header_bytes c ++ (flat_map export_bytes c.exports ++ flat_map reloc_bytes c.relocs)
 
+-- how long a run is, by its header
 abbrev pub run_length : Header → ℕ
 run_length h = 32 + 6 * h.exports + 8 * h.relocs
 

@@ -42,10 +42,11 @@ parts_of prog ext = record {
 abbrev pub is_on_b : Parts → Bool
 is_on_b p = if p.gates go_a then false else if p.gates go_b then true else p.gates sel
 
--- the bytes of the chosen side, and of the other
+-- the bytes of the chosen side
 abbrev pub chosen_side : Parts → List ℕ
 chosen_side p = if is_on_b p then p.side_b else p.side_a
 
+-- the bytes of the side that is not chosen
 abbrev pub other_side : Parts → List ℕ
 other_side p = if is_on_b p then p.side_a else p.side_b
 
@@ -53,10 +54,11 @@ other_side p = if is_on_b p then p.side_a else p.side_b
 abbrev pub is_pending : Parts → Bool
 is_pending p = if p.gates go_a then true else p.gates go_b
 
--- the set of a release that is installed here, and of one that is being installed
+-- the set of a release that is installed here
 abbrev pub kept_set : List (List ℕ) → List (List ℕ) → StoredRelease → List Component
 kept_set tables pages m = components_in (kept_packages tables pages m)
 
+-- the set of a release that is being installed
 abbrev pub going_set : List (List ℕ) → List (List ℕ) → List (List ℕ) → StoredRelease → List Component
 going_set tables inbox staged m = components_in (going_packages tables inbox staged m)
 

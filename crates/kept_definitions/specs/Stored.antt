@@ -14,6 +14,7 @@ pub record Placed : Type 0 where
   pub slot : ℕ
   pub fresh : Bool
 
+-- a release as a side of external flash keeps it
 pub record StoredRelease : Type 0 where
   pub number : ℕ
   pub placed : List Placed
@@ -44,6 +45,7 @@ pub record Stores (b : List ℕ) (m : StoredRelease) : Type 0 where
   pub stored : IsStored m
   pub bytes : b ≡ stored_bytes m
 
+-- what stands in place i of five pages
 abbrev pub placed_at : List ℕ → ℕ → Placed
 placed_at b i = let at = 256 + 64 * i in record { entry = manifest_entry_at b at; slot = slice_index b (at + 38); fresh = slice_index b (at + 39) == 1 }
 

@@ -43,8 +43,8 @@ AreAll P [] (c ∷ cs) = ⊥
 AreAll P (p ∷ ps) [] = ⊥
 AreAll P (p ∷ ps) (c ∷ cs) = P p c × AreAll P ps cs
 
--- The law of taking back: a set whose packages are the release's, and whose runs begin the table slots that it names, is the one that `Kept`
--- finds in the set's own pages; and what `Kept` finds, wherever it finds packages, begins the slots.
+-- The law of taking back: a set whose packages are the release's, and whose runs begin the table slots that it names, is the one that its
+-- own pages give back; and wherever packages are given back, their runs begin the slots.
 pub record KeptIsTheSet : Type 0 where
   pub set : (tables pages : List (List ℕ)) (m : StoredRelease) (set : List Component) → IsPages set pages → AreAll (IsInTable tables) m.placed set
       → kept_set tables pages m ≡ set
@@ -61,6 +61,7 @@ pub record IsOnItsWay (tables inbox : List (List ℕ)) (p : Placed) (c : Compone
   pub fresh : p.fresh ≡ true → Begins (slice_index_or inbox p.slot []) (spelling c)
   pub held : p.fresh ≡ false → Begins (slice_index_or tables p.slot []) (run_of c)
 
+-- A set on its way is the one that its own pages give back.
 pub record GoingIsTheSet : Type 0 where
   pub set : (tables inbox pages : List (List ℕ)) (m : StoredRelease) (set : List Component) → IsPages set pages → AreAll (IsOnItsWay tables inbox) m.placed set
       → going_set tables inbox pages m ≡ set

@@ -21,10 +21,11 @@ with_gate gate stands p = record p { gates = λ g. if g == gate then stands else
 abbrev pub with_other_side : List ℕ → Parts → Parts
 with_other_side bytes p = record p { side_a = if is_on_b p then bytes else p.side_a; side_b = if is_on_b p then p.side_b else bytes }
 
--- the Go gate of the side that isn't chosen, and of the chosen one
+-- the Go gate of the side that isn't chosen
 abbrev pub other_go : Parts → ℕ
 other_go p = if is_on_b p then go_a else go_b
 
+-- the Go gate of the chosen side
 abbrev pub chosen_go : Parts → ℕ
 chosen_go p = if is_on_b p then go_b else go_a
 
@@ -91,13 +92,13 @@ pub record OpeningKeeps : Type 0 where
 
 -- ---- a commit, and its end
 
--- The other side's Go gate is opened where the image gate is open: the mote is sound either way, and chooses the incoming set where the gate came to
--- be open, taken back from the staged pages, else what it chose before.
+-- the mote is sound either way, and chooses the incoming set where the gate came to be open, taken back from the staged pages, else what it chose before
 pub record Commits (p : Parts) (b : Bool) (q : Parts) : Type 0 where
   pub sound : IsSound q
   pub before : b ≡ false → (c : Chosen) → Chooses p c → Chooses q c
   pub behind : b ≡ true → (c : Chosen) → HasOther p c → Chooses q c
 
+-- The other side's Go gate is opened where the image gate is open.
 abbrev pub CommitIsWhole : Type 0
 CommitIsWhole = (p : Parts) (b : Bool) → IsSound p → is_pending p ≡ false → p.gates img ≡ true → Commits p b (with_gate (other_go p) b p)
 

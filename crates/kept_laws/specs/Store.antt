@@ -30,10 +30,11 @@ pub record RunTells : Type 0 where
 
 -- ---- parts
 
--- a component's code or data, and where it stands in the image
+-- a component's code or data
 abbrev pub part_of : Component → Bool → List ℕ
 part_of c init = if init then c.init else c.code
 
+-- where it stands in the image
 abbrev pub base_of : List Component → ℕ → Bool → ℕ
 base_of set k init = if init then load_base (rooms_of set) k else code_base (rooms_of set) k
 

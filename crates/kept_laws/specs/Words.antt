@@ -39,6 +39,7 @@ pub record WordsSay (tables prog inbox : List (List ℕ)) (current side : List �
       ↔ (HasComing now inbox next × ((t : List MergedSymbol) × IsTableOf (coming_set now inbox next) t × Lists area (listed (coming_set now inbox next) t)))
   pub image : (pages : List (List ℕ)) → HasImage tables prog inbox current side pages ↔ (HasComing now inbox next × IsPages (coming_set now inbox next) pages)
 
+-- Where the releases are known, each word says what it says of them.
 pub record WordsSayWhatTheyMean : Type 0 where
   pub side : (side : List ℕ) (m : StoredRelease) → Stores side m → SideSays side m
   pub coming : (tables prog inbox : List (List ℕ)) (current side : List ℕ) (now : Chosen) (next : StoredRelease) → AreKnown tables prog current side now next
