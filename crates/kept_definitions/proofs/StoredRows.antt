@@ -6,7 +6,7 @@ use Rattle.std.proofs.lemmas.List.{get_or-replicate, get_or_past}
 use Rattle.avr_reloc.specs.Field.{AreBytes}
 use Rattle.component_package.specs.declared.manifest.Entry.{Entry}
 use Rattle.component_package.specs.packages.Manifest.{IsManifestEntry}
-use Rattle.component_package.specs.packages.Manifest as first_layout
+use Rattle.kept_definitions.specs.Layouts.{LayoutsDiffer}
 use Rattle.kept_definitions.specs.Stored.{Placed, StoredRelease, IsStored, Stores, placed_bytes, stored_bytes, stored_in}
 use Rattle.kept_definitions.proofs.Samples.{empty_release, first, second}
 
@@ -50,8 +50,8 @@ pub layout_is_told : (b : List ℕ) (m : StoredRelease) → Stores b m → slice
 layout_is_told b m stores = ap (λ (x : List ℕ). slice_index x 5) stores.bytes
 
 -- so what the first layout stores, the second doesn't: a board of the first is unformatted here
-pub first_layout_is_none : (b : List ℕ) (m : first_layout.StoredRelease) (n : StoredRelease) → first_layout.Stores b m → Stores b n → ⊥
-first_layout_is_none b m n old new =
+pub layouts_differ : LayoutsDiffer
+layouts_differ b m n old new =
     let zero_there : slice_index b 5 ≡ 0 = ap (λ (x : List ℕ). slice_index x 5) old.bytes in
     let two_there : slice_index b 5 ≡ 2 = layout_is_told b n new in
     omega (arith, zero_there, two_there)

@@ -1,5 +1,6 @@
 pub mod Runs
 pub mod Stored
+pub mod Layouts
 pub mod Kept
 pub mod Sides
 pub mod Sound

@@ -8,6 +8,7 @@ use Rattle.component_package.specs.declared.manifest.Entry.{Entry}
 use Rattle.component_package.specs.packages.Numbers.{u32_bytes}
 use Rattle.component_package.specs.packages.Reading.{list_of}
 use Rattle.component_package.specs.packages.Manifest.{IsManifestEntry, manifest_entry_bytes, manifest_entry_at}
+use Rattle.kept_laws.specs.Stored.{StoredReleaseIsOne}
 use Rattle.kept_definitions.specs.Stored.{Placed, StoredRelease, IsStored, Stores, placed_bytes, stored_bytes, placed_at, stored_in}
 use Rattle.component_package.proofs.Lists.{all_at, list_of_entries}
 use Rattle.component_package.proofs.ManifestLemmas.{entry_among, entry_wide, entry_again, entry_from_slice, number_again}
@@ -75,3 +76,6 @@ stored_again b m stores =
 -- so a side is one release's
 pub release_one : (b : List ℕ) (m n : StoredRelease) → Stores b m → Stores b n → m ≡ n
 release_one b m n s t = sym (stored_again b m s) ∙ stored_again b n t
+
+pub stored_release_is_one : StoredReleaseIsOne
+stored_release_is_one = record { bytes = λ b d m s t. s.bytes ∙ sym t.bytes; release = release_one; said = stored_again }

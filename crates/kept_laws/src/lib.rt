@@ -4,6 +4,7 @@
 #![tactic(auto)]
 
 ghost use Rattle.kept_laws.specs.Laws.{TakenBack, KeptIsTheSet, GoingIsTheSet, ComingIsOnItsWay, GoingIsKept};
+ghost use Rattle.kept_laws.specs.Stored.{StoredReleaseIsOne};
 ghost use Rattle.kept_laws.specs.Steps.{ClosingKeeps, WritingKeeps, OpeningKeeps, CommitIsWhole, SelectingKeeps, FinishingKeeps, RestIsFree};
 ghost use Rattle.kept_laws.specs.Stands.{PartsStandForOne, RestingStepsStand, CutCommitIsWhole, StandingStepsStand};
 ghost use Rattle.kept_laws.specs.Slots.{SlotIsFree, SlotsAreFound};
@@ -13,11 +14,15 @@ ghost use Rattle.kept_laws.specs.Runs.{RefusalsChangeNothing, MachineIsTotal, On
 ghost use Rattle.kept_laws.specs.Store.{RunTells, PartsAreCleared, TablesAreFilled, ComingIsFaultless, SlotsAreInOneRow};
 ghost use Rattle.kept_laws.specs.Words.{WordsSayWhatTheyMean, ImageIsTheChosens};
 ghost use Rattle.kept_laws.specs.Standing.{SoundPartsTell, GatesStay};
-ghost use Rattle.kept_laws.specs.Layouts.{LayoutsDiffer};
 ghost use Rattle.kept_laws.specs.Counts.{EachFieldCounts, EachImageCounts, EachGateCounts};
 ghost use Rattle.kept_laws.specs.Clearing.{ClearingGoesOn};
 ghost use Rattle.kept_laws.specs.Held.{InstalledIsReadable};
 ghost use Rattle.kept_laws.specs.Invariant.{MotesStayMotes, SoundIsAMote};
+
+/// One stored release has one form in bytes, and one list of bytes is one stored release's at most.
+pub fn stored_release_is_one()
+    ensures { StoredReleaseIsOne }
+{}
 
 /// The packages of a set are taken back from the runs of its components and its pages.
 pub fn taken_back()
@@ -222,11 +227,6 @@ pub fn sound_parts_tell()
 /// A gate that is set to what it is changes nothing.
 pub fn gates_stay()
     ensures { GatesStay }
-{}
-
-/// A board of the first layout is unformatted in the second.
-pub fn layouts_differ()
-    ensures { LayoutsDiffer }
 {}
 
 /// Parts that aren't formatted, are installed twice, or whose chosen set is missing, refused or not in its pages aren't sound.

@@ -1,4 +1,4 @@
--- The first layout and the second.
+-- What tells the two layouts apart.
 use Rattle.std.specs.Prelude.{ℕ, List}
 use Rattle.component_package.specs.packages.Manifest as first_layout
 use Rattle.kept_definitions.specs.Stored.{StoredRelease, Stores}
