@@ -1,7 +1,7 @@
 -- Answers of the mote machine, and what it then holds: each row pins one test, which of two tests comes first, or one field of the state.
 use Rattle.std.proofs.Common.{◌≡◌, ℕ, List, [], ◌∷◌, ◌++◌, ◌-◌, true, false, Some, None, refl, replicate, take, length}
 use Rattle.sha2.specs.Sha256.{sha256, digest_bytes, hash_after, compress, rounds, schedule, first_words}
-use Rattle.component_package.specs.declared.answer.Answer.TheVariants.{Booted, Status, NoManifest, BadFrame, ManifestIs, Piece, Linked, Committed, Held, BadPiece, Missing, NotLinked, Reboot, Stale, BadManifest}
+use Rattle.component_package.specs.declared.answer.Answer.TheVariants.{Booted, Status, NoManifest, BadFrame, ManifestIs, Piece, Linked, Committed, Held, BadPiece, Missing, NotLinked, Undefined, Reboot, Stale, BadManifest}
 use Rattle.component_package.specs.packages.Component.{Component}
 use Rattle.component_package.specs.packages.Reading.{component_of}
 use Rattle.component_package.specs.packages.Manifest.{release_in}
@@ -9,7 +9,7 @@ use Rattle.component_package.specs.link.Link.{link_cause}
 use Rattle.component_package.specs.mote.Page.{filled_page}
 use Rattle.kept_definitions.specs.Kept.{Chosen, coming_set, slots_for}
 use Rattle.kept_definitions.specs.Machine.{Mote, step, answers_from, session_answers, session_commits}
-use Rattle.kept_definitions.proofs.Samples.{p, q, entry_p, entry_q, manifest, first, frame, bare, formatted}
+use Rattle.kept_definitions.proofs.Samples.{p, q, entry_p, entry_q, manifest, first, other, frame, bare, formatted}
 
 -- ---- motes
 
@@ -99,6 +99,16 @@ linked_again : answers_from second_mote (frame 1 manifest_3 ∷ bare 3 ∷ bare 
 unfolding link_cause coming_set
 linked_again = refl
 
+-- what refuses a set is told of the incoming one: P alone, whose symbol Q exports
+refused : answers_from second_mote (frame 1 (3 ∷ 0 ∷ 0 ∷ 0 ∷ 1 ∷ entry_p) ∷ bare 3 ∷ bare 4 ∷ bare 6 ∷ []) ≡ ManifestIs 3 1 ∷ Undefined 0 0 16 ∷ NotLinked ∷ Status 2 3 1 ∷ []
+unfolding link_cause coming_set
+refused = refl
+
+-- STATUS: where a commit stands nothing else counts, and what is linked counts before what comes in
+status : (answers_from (record linked_mote { standing = true }) (bare 6 ∷ []) ≡ Status 0 0 3 ∷ []) × (answers_from linked_mote (bare 6 ∷ []) ≡ Status 0 1 2 ∷ [])
+    × (answers_from coming_mote (bare 6 ∷ []) ≡ Status 0 1 1 ∷ []) × (answers_from second_mote (bare 6 ∷ []) ≡ Status 2 0 0 ∷ [])
+status = (refl, refl, refl, refl)
+
 -- ---- the state
 
 -- MANIFEST: the release comes in, with slots over the current one, and isn't linked
@@ -110,6 +120,17 @@ after_piece : ((step coming_mote (frame 2 (1 ∷ 0 ∷ q))).mote.inbox ≡ repli
     × ((step linked_mote (frame 2 (1 ∷ 0 ∷ take 40 p))).mote.linked ≡ false) × ((step linked_mote (frame 2 (1 ∷ 0 ∷ take 40 p))).mote.current ≡ formatted.current)
 unfolding filled_page
 after_piece = (refl, refl, refl)
+
+-- the slot is the entry's, and the page is the piece's; the last page has what is left of the package
+abbrev elsewhere : Mote
+elsewhere = record formatted { incoming = Some (record { number = 1; placed = record { entry = record (other 7) { length = 300 }; slot = 2; fresh = true } ∷ [] }) }
+
+after_last_piece : ((step elsewhere (frame 2 (0 ∷ 1 ∷ replicate 44 9))).mote.inbox
+    ≡ empty_slots 2 ++ (replicate 256 0 ++ (replicate 44 9 ++ (replicate 212 255 ++ replicate 9472 0))) ∷ empty_slots 13)
+    × (answers_from elsewhere (frame 2 (0 ∷ 1 ∷ replicate 45 9) ∷ frame 2 (0 ∷ 0 ∷ replicate 255 9) ∷ frame 2 (0 ∷ 0 ∷ replicate 256 9) ∷ []) ≡ BadPiece ∷ BadPiece ∷ Piece 0 0 ∷ [])
+    × ((step (record elsewhere { inbox = empty_slots 2 ++ (replicate 300 9 ++ replicate 9684 255) ∷ []; linked = true }) (frame 2 (0 ∷ 1 ∷ replicate 44 9))).mote.linked ≡ true)
+unfolding filled_page
+after_last_piece = (refl, refl, refl)
 
 -- LINK: it is linked
 after_link : (step (record linked_mote { linked = false }) (bare 3)).mote ≡ linked_mote

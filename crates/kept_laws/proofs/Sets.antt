@@ -15,9 +15,9 @@ use Rattle.component_package.specs.mote.Store.{is_same, is_same_entry}
 use Rattle.kept_definitions.specs.Runs.{run_of, run_length, run_in_table, run_in_package, room_of_run, package_from, taken_back}
 use Rattle.kept_definitions.specs.Stored.{Placed, StoredRelease}
 use Rattle.kept_definitions.specs.Kept.{Chosen, HoldsPackage, HoldPackages, table_run, going_run, kept_packages, going_packages, components_in, package_in, held_component, coming_component, coming_set, IsComing}
-use Rattle.kept_definitions.specs.Sides.{kept_set}
+use Rattle.kept_definitions.specs.Sides.{going_set, kept_set}
 use Rattle.component_package.proofs.ReadAgain.{spelling_said}
-use Rattle.kept_laws.specs.Laws.{IsPackageOf, Begins, IsInTable, AreAll, KeptIsTheSet, IsOnItsWay, GoingIsTheSet, IsOver, IsNow, ComingIsOnItsWay, KeepsItsRun, GoingIsKept}
+use Rattle.kept_laws.specs.Laws.{IsPackageOf, Begins, IsInTable, AreAll, KeptIsTheSet, IsOnItsWay, HasGoingRun, GoingIsTheSet, IsOver, IsNow, ComingIsOnItsWay, KeepsItsRun, GoingIsKept}
 use Rattle.kept_laws.proofs.Reading.{run_there, run_packed}
 use Rattle.kept_laws.proofs.Runs.{run_short, packed_short, run_of_package}
 use Rattle.kept_laws.proofs.Whole.{pages_back}
@@ -148,12 +148,41 @@ going_are : (tables inbox pages : List (List ℕ)) (m : StoredRelease) (set : Li
 unfolding going_packages
 going_are tables inbox pages m set image all = packages_are (IsOnItsWay tables inbox) (going_run tables inbox) (on_its_way tables inbox) (λ p c is. is.entry) pages m.placed set image all
 
+-- the run of an entry whose package is taken back
+going_found : (tables inbox : List (List ℕ)) (image : List ℕ) (rooms : List Room) (k : ℕ) (p : Placed) (h : HoldsPackage p.entry (package_from image rooms k (going_run tables inbox p)))
+    → going_run tables inbox p ≡ run_of h.component
+going_found tables inbox image rooms k p h = run_of_package image rooms k (going_run tables inbox p) h.component (short p.fresh) h.spelled.bytes
+  where
+    short : (b : Bool) → length (cond b (run_in_package (get_or inbox p.slot [])) (table_run tables p)) ≤ run_length
+        (header_of (cond b (run_in_package (get_or inbox p.slot [])) (table_run tables p)))
+    short true = packed_short (get_or inbox p.slot [])
+    short false = run_short (get_or tables p.slot [])
+
+-- so it is for each
+going_one : (tables inbox : List (List ℕ)) (image : List ℕ) (rooms : List Room) (k : ℕ) (p : Placed) → HoldsPackage p.entry (package_from image rooms k (going_run tables inbox p))
+    → HasGoingRun tables inbox p (component_of (package_from image rooms k (going_run tables inbox p)))
+going_one tables inbox image rooms k p h =
+    subst (HasGoingRun tables inbox p) (sym (said p.entry (package_from image rooms k (going_run tables inbox p)) h))
+    (record { entry = is_package p.entry (package_from image rooms k (going_run tables inbox p)) h; run = going_found tables inbox image rooms k p h })
+
+going_all : (tables inbox : List (List ℕ)) (image : List ℕ) (rooms : List Room) (n : ℕ) (ps : List Placed)
+    → HoldPackages ps (map (λ x. package_from image rooms x.0 x.1) (enumerate_from n (map (going_run tables inbox) ps)))
+    → AreAll (HasGoingRun tables inbox) ps (components_in (map (λ x. package_from image rooms x.0 x.1) (enumerate_from n (map (going_run tables inbox) ps))))
+going_all tables inbox image rooms n [] holds = tt
+going_all tables inbox image rooms n (p ∷ ps) holds = (going_one tables inbox image rooms n p holds.0, going_all tables inbox image rooms (n + 1) ps holds.1)
+
+runs_found : (tables inbox pages : List (List ℕ)) (m : StoredRelease) → HoldPackages m.placed (going_packages tables inbox pages m)
+    → AreAll (HasGoingRun tables inbox) m.placed (going_set tables inbox pages m)
+unfolding going_packages
+runs_found tables inbox pages m holds = going_all tables inbox (concat pages) (map room_of_run (map (going_run tables inbox) m.placed)) 0 m.placed holds
+
 pub going_is_the_set : GoingIsTheSet
 going_is_the_set = record {
   set = λ tables inbox pages m set image all. ap components_in (going_are tables inbox pages m set image all)
       ∙ said_again set (components_all (IsOnItsWay tables inbox) (λ p c is. is.entry) m.placed set all);
   packages = λ tables inbox pages m set image all. subst (HoldPackages m.placed)
       (sym (going_are tables inbox pages m set image all)) (hold_all (IsOnItsWay tables inbox) (λ p c is. is.entry) m.placed set all);
+  found = runs_found;
 }
 
 -- ---- the incoming set
@@ -247,16 +276,6 @@ kept_run tables inbox p c run keeps =
       | inl e ↦ let b = keeps e in ap run_in_table (b.is ∙ ap (λ (x : List ℕ). x ++ b.rest) run) ∙ run_there c b.rest ∙ sym run
       | inr e ↦ sym (ap (λ (f : Bool). cond f (run_in_package (get_or inbox p.slot [])) (table_run tables p)) e)
     ]
-
--- the run of an entry whose package is taken back
-going_found : (tables inbox : List (List ℕ)) (image : List ℕ) (rooms : List Room) (k : ℕ) (p : Placed) (h : HoldsPackage p.entry (package_from image rooms k (going_run tables inbox p)))
-    → going_run tables inbox p ≡ run_of h.component
-going_found tables inbox image rooms k p h = run_of_package image rooms k (going_run tables inbox p) h.component (short p.fresh) h.spelled.bytes
-  where
-    short : (b : Bool) → length (cond b (run_in_package (get_or inbox p.slot [])) (table_run tables p)) ≤ run_length
-        (header_of (cond b (run_in_package (get_or inbox p.slot [])) (table_run tables p)))
-    short true = packed_short (get_or inbox p.slot [])
-    short false = run_short (get_or tables p.slot [])
 
 -- so the runs are the same
 runs_kept : (tables inbox : List (List ℕ)) (image : List ℕ) (rooms : List Room) (n : ℕ) (ps : List Placed)

@@ -61,12 +61,19 @@ pub record IsOnItsWay (tables inbox : List (List ℕ)) (p : Placed) (c : Compone
   pub fresh : p.fresh ≡ true → Begins (slice_index_or inbox p.slot []) (spelling c)
   pub held : p.fresh ≡ false → Begins (slice_index_or tables p.slot []) (run_of c)
 
--- A set on its way is the one that its own pages give back.
+-- the component's package is the entry's, and its run is the one that is found for the entry
+pub record HasGoingRun (tables inbox : List (List ℕ)) (p : Placed) (c : Component) : Type 0 where
+  pub entry : IsPackageOf p.entry c
+  pub run : going_run tables inbox p ≡ run_of c
+
+-- A set on its way is the one that its own pages give back; and wherever packages are given back, the runs that are found are theirs.
 pub record GoingIsTheSet : Type 0 where
   pub set : (tables inbox pages : List (List ℕ)) (m : StoredRelease) (set : List Component) → IsPages set pages → AreAll (IsOnItsWay tables inbox) m.placed set
       → going_set tables inbox pages m ≡ set
   pub packages : (tables inbox pages : List (List ℕ)) (m : StoredRelease) (set : List Component) → IsPages set pages → AreAll (IsOnItsWay tables inbox) m.placed set
       → HoldPackages m.placed (going_packages tables inbox pages m)
+  pub found : (tables inbox pages : List (List ℕ)) (m : StoredRelease) → HoldPackages m.placed (going_packages tables inbox pages m)
+      → AreAll (HasGoingRun tables inbox) m.placed (going_set tables inbox pages m)
 
 -- ---- the incoming set
 
