@@ -15,6 +15,8 @@ ghost use Rattle.kept_laws.specs.Store.{RunTells, PartsAreCleared, TablesAreFill
 ghost use Rattle.kept_laws.specs.Words.{WordsSayWhatTheyMean, ImageIsTheChosens};
 ghost use Rattle.kept_laws.specs.Standing.{SoundPartsTell, GatesStay};
 ghost use Rattle.kept_laws.specs.Counts.{EachFieldCounts, EachImageCounts, EachGateCounts};
+ghost use Rattle.kept_laws.specs.LinkedRow.{LinkedIsSound};
+ghost use Rattle.kept_laws.specs.LineRows.{LinesCount};
 ghost use Rattle.kept_laws.specs.Clearing.{ClearingGoesOn};
 ghost use Rattle.kept_laws.specs.Held.{InstalledIsReadable};
 ghost use Rattle.kept_laws.specs.Invariant.{MotesStayMotes, SoundIsAMote};
@@ -242,4 +244,14 @@ pub fn each_image_counts()
 /// An open gate with anything missing of what it vouches for isn't sound.
 pub fn each_gate_counts()
     ensures { EachGateCounts }
+{}
+
+/// A mote with a linked release that isn't committed is sound, with five gates open, and so it is after the installation.
+pub fn linked_is_sound()
+    ensures { LinkedIsSound }
+{}
+
+/// What the headline says after `committed N` and after `booted N`.
+pub fn lines_count()
+    ensures { LinesCount }
 {}
