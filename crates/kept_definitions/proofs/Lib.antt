@@ -1,0 +1,7 @@
+pub mod Samples
+pub mod StoredRows
+pub mod SlotRows
+pub mod RunRows
+pub mod SetRows
+pub mod MachineRows
+pub mod UpdateRows
