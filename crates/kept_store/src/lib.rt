@@ -1,0 +1,9 @@
+//! The mote's store of packages in the second layout: inbox slots for packages that come in, and table slots for the runs of installed components,
+//! whose code and data are taken back from program flash.
+//!
+//! A slot has 39 pages, and there are 16 of either kind. No call takes memory, and every call that only reads leaves the board as it was.
+#![tactic(auto)]
+
+mod slots;
+
+pub use slots::{is_held, slot_for};
