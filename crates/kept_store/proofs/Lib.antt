@@ -1,1 +1,5 @@
 pub mod SlotLemmas
+pub mod SlotBytes
+pub mod RestLemmas
+pub mod OpenLemmas
+pub mod ComingLemmas

@@ -4,6 +4,13 @@
 //! A slot has 39 pages, and there are 16 of either kind. No call takes memory, and every call that only reads leaves the board as it was.
 #![tactic(auto)]
 
+mod current;
+mod open;
+mod places;
+mod set;
 mod slots;
 
+pub use current::open_current;
+pub use open::open_set;
+pub use set::StoredSet;
 pub use slots::{is_held, slot_for};
