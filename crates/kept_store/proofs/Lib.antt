@@ -3,3 +3,5 @@ pub mod SlotBytes
 pub mod RestLemmas
 pub mod OpenLemmas
 pub mod ComingLemmas
+pub mod RecordLemmas
+pub mod FieldLemmas

@@ -5,12 +5,15 @@
 #![tactic(auto)]
 
 mod current;
+mod fields;
 mod open;
 mod places;
+mod records;
 mod set;
 mod slots;
 
 pub use current::open_current;
 pub use open::open_set;
+pub use records::{export_at, read_reloc, reloc_at};
 pub use set::StoredSet;
 pub use slots::{is_held, slot_for};

@@ -96,8 +96,8 @@ fn part_of_set(set: &StoredSet, j: u8) -> Part
     }
 }
 
-// A set's lists have 16 places each. It does nothing: contracts learn by it how long the lists are.
-fn has_rooms(set: &StoredSet)
+/// A set's lists have 16 places each. It does nothing: contracts learn by it how long the lists are.
+pub(crate) fn has_rooms(set: &StoredSet)
     ensures { HasRooms set.now }
 {
     let _header = set.headers[0];
