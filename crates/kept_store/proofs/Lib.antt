@@ -1,0 +1,7 @@
+pub mod SlotLemmas
+pub mod SlotBytes
+pub mod RestLemmas
+pub mod OpenLemmas
+pub mod ComingLemmas
+pub mod RecordLemmas
+pub mod FieldLemmas

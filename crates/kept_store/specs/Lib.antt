@@ -1,0 +1,5 @@
+pub mod Slots
+pub mod Sets
+pub mod Open
+pub mod Records
+pub mod Fields

@@ -1,0 +1,19 @@
+//! The mote's store of packages in the second layout: inbox slots for packages that come in, and table slots for the runs of installed components,
+//! whose code and data are taken back from program flash.
+//!
+//! A slot has 39 pages, and there are 16 of either kind. No call takes memory, and every call that only reads leaves the board as it was.
+#![tactic(auto)]
+
+mod current;
+mod fields;
+mod open;
+mod places;
+mod records;
+mod set;
+mod slots;
+
+pub use current::open_current;
+pub use open::open_set;
+pub use records::{export_at, read_reloc, reloc_at};
+pub use set::StoredSet;
+pub use slots::{is_held, slot_for};
