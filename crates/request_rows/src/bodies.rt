@@ -7,19 +7,25 @@ use http_bodies::{
 use std::alloc::{AllocError, Global};
 use std::test::Fail;
 
-// `name version;` for each part, or the fault
-fn parts_shown(alloc: Global, body: &[u8]) -> Result<String, AllocError> {
+fn push_part(alloc: Global, text: &mut String, part: &Part) -> Result<(), AllocError> {
+    let line = format!(in alloc; "{} {};", part.component.as_str(), part.version)?;
+    text.push_str(&line)
+}
+
+fn list_shown(alloc: Global, parts: &[Part]) -> Result<String, AllocError> {
     let mut text = String::new(alloc);
-    match read_parts(alloc, body) {
-        Ok(parts) => {
-            for part in parts.as_slice() {
-                let line = format!(in alloc; "{} {};", part.component.as_str(), part.version)?;
-                text.push_str(&line)?;
-            }
-        }
-        Err(fault) => text.push_str(fault_shown(fault))?,
+    for part in parts {
+        push_part(alloc, &mut text, part)?;
     }
     Ok(text)
+}
+
+// `name version;` for each part, or the fault
+fn parts_shown(alloc: Global, body: &[u8]) -> Result<String, AllocError> {
+    match read_parts(alloc, body) {
+        Ok(parts) => list_shown(alloc, parts.as_slice()),
+        Err(fault) => String::from_str(alloc, fault_shown(fault)),
+    }
 }
 
 fn fault_shown(fault: BodyFault) -> &'static str {
@@ -86,12 +92,19 @@ const PARTS: [Row; 34] = [
     ("", "bad"),
 ];
 
+fn gives_parts(alloc: Global, body: &[u8], want: &str) -> Result<bool, AllocError> {
+    let got = parts_shown(alloc, body)?;
+    Ok(got.as_str() == want)
+}
+
 // The first of these bodies that gives other parts.
 fn first_other_parts(alloc: Global, rows: &[Row]) -> Result<Option<usize>, AllocError> {
-    for (i, (body, want)) in rows.iter().enumerate() {
-        if parts_shown(alloc, body.as_bytes())?.as_str() != *want {
+    let mut i = 0usize;
+    for (body, want) in rows {
+        if !gives_parts(alloc, body.as_bytes(), want)? {
             return Ok(Some(i));
         }
+        i = i.wrapping_add(1);
     }
     Ok(None)
 }
@@ -99,20 +112,27 @@ fn first_other_parts(alloc: Global, rows: &[Row]) -> Result<Option<usize>, Alloc
 #[test]
 fn reads_parts(rt: HostRuntime) -> Result<(), Fail> {
     assert_eq!(rt; first_other_parts(rt.alloc(), &PARTS)?, None);
-    let got = parts_shown(rt.alloc(), b"[[\"a\xff\",1]]")?;
-    assert!(rt; got.as_str() == "bad", "no UTF-8");
+    assert!(rt;
+        gives_parts(rt.alloc(), b"[[\"a\xff\",1]]", "bad")?,
+        "no UTF-8"
+    );
     Ok(())
 }
 
-// an object whose first value of `release` is so many lists, one in the other, and the second one 5
-fn nested(alloc: Global, depth: usize) -> Result<String, AllocError> {
-    let mut text = String::from_str(alloc, "{\"release\":")?;
+fn push_nested(text: &mut String, depth: usize) -> Result<(), AllocError> {
     for _ in 0..depth {
         text.push_str("[")?;
     }
     for _ in 0..depth {
         text.push_str("]")?;
     }
+    Ok(())
+}
+
+// an object whose first value of `release` is so many lists, one in the other, and the second one 5
+fn nested(alloc: Global, depth: usize) -> Result<String, AllocError> {
+    let mut text = String::from_str(alloc, "{\"release\":")?;
+    push_nested(&mut text, depth)?;
     text.push_str(",\"release\":5}")?;
     Ok(text)
 }
@@ -144,25 +164,33 @@ const ACKNOWLEDGEMENTS: [Row; 24] = [
     ("", "bad"),
 ];
 
+fn gives_release(alloc: Global, body: &[u8], want: &str) -> Result<bool, AllocError> {
+    let got = release_shown(alloc, body)?;
+    Ok(got.as_str() == want)
+}
+
 // The first of these bodies that acknowledges something else.
 fn first_other_release(alloc: Global, rows: &[Row]) -> Result<Option<usize>, AllocError> {
-    for (i, (body, want)) in rows.iter().enumerate() {
-        if release_shown(alloc, body.as_bytes())?.as_str() != *want {
+    let mut i = 0usize;
+    for (body, want) in rows {
+        if !gives_release(alloc, body.as_bytes(), want)? {
             return Ok(Some(i));
         }
+        i = i.wrapping_add(1);
     }
     Ok(None)
+}
+
+fn gives_nested(alloc: Global, depth: usize, want: &str) -> Result<bool, AllocError> {
+    let body = nested(alloc, depth)?;
+    gives_release(alloc, body.as_bytes(), want)
 }
 
 #[test]
 fn reads_acknowledgements(rt: HostRuntime) -> Result<(), Fail> {
     assert_eq!(rt; first_other_release(rt.alloc(), &ACKNOWLEDGEMENTS)?, None);
-    let body = nested(rt.alloc(), 100)?;
-    let got = release_shown(rt.alloc(), body.as_bytes())?;
-    assert_eq!(rt; got.as_str(), "5");
-    let body = nested(rt.alloc(), 200)?;
-    let got = release_shown(rt.alloc(), body.as_bytes())?;
-    assert_eq!(rt; got.as_str(), "bad");
+    assert!(rt; gives_nested(rt.alloc(), 100, "5")?);
+    assert!(rt; gives_nested(rt.alloc(), 200, "bad")?);
     Ok(())
 }
 
@@ -173,27 +201,57 @@ fn part(alloc: Global, component: &str, version: u16) -> Result<Part, AllocError
     })
 }
 
+fn parts(alloc: Global) -> Result<Vec<Part>, AllocError> {
+    let mut parts = Vec::new(alloc);
+    parts.push(part(alloc, "sender", 1)?)?;
+    parts.push(part(alloc, "radio", 65535)?)?;
+    Ok(parts)
+}
+
+fn writes_release(alloc: Global) -> Result<bool, AllocError> {
+    let got = release_body(alloc, "m1", 1)?;
+    Ok(got.as_str() == "{\"mote\":\"m1\",\"release\":1}")
+}
+
+fn writes_acknowledgement(alloc: Global) -> Result<bool, AllocError> {
+    let got = acknowledgement_body(alloc, 4294967295, "m1")?;
+    Ok(got.as_str() == "{\"acknowledged\":4294967295,\"mote\":\"m1\"}")
+}
+
+/// A mote's name, its release and what it acknowledged.
+type Mote = (&'static str, u32, u32);
+
+fn writes_mote(alloc: Global, mote: Mote, parts: &[Part], want: &str) -> Result<bool, AllocError> {
+    let (name, release, acknowledged) = mote;
+    let got = mote_body(alloc, acknowledged, parts, name, release)?;
+    Ok(got.as_str() == want)
+}
+
+fn writes_mote_of_two(alloc: Global) -> Result<bool, AllocError> {
+    let parts = parts(alloc)?;
+    writes_mote(
+        alloc,
+        ("m1", 1, 0),
+        &parts,
+        "{\"acknowledged\":0,\"components\":[[\"sender\",1],[\"radio\",65535]],\"mote\":\"m1\",\"release\":1}",
+    )
+}
+
+fn writes_mote_of_none(alloc: Global) -> Result<bool, AllocError> {
+    writes_mote(
+        alloc,
+        ("m", 3, 2),
+        &[],
+        "{\"acknowledged\":2,\"components\":[],\"mote\":\"m\",\"release\":3}",
+    )
+}
+
 #[test]
 fn writes_replies(rt: HostRuntime) -> Result<(), Fail> {
-    let alloc = rt.alloc();
-    let parts = vec![in alloc; part(alloc, "sender", 1)?, part(alloc, "radio", 65535)?]?;
-    let got = release_body(alloc, "m1", 1)?;
-    assert_eq!(rt; got.as_str(), "{\"mote\":\"m1\",\"release\":1}");
-    let got = acknowledgement_body(alloc, 4294967295, "m1")?;
-    assert_eq!(rt;
-        got.as_str(),
-        "{\"acknowledged\":4294967295,\"mote\":\"m1\"}"
-    );
-    let got = mote_body(alloc, 0, &parts, "m1", 1)?;
-    assert_eq!(rt;
-        got.as_str(),
-        "{\"acknowledged\":0,\"components\":[[\"sender\",1],[\"radio\",65535]],\"mote\":\"m1\",\"release\":1}"
-    );
-    let got = mote_body(alloc, 2, &[], "m", 3)?;
-    assert_eq!(rt;
-        got.as_str(),
-        "{\"acknowledged\":2,\"components\":[],\"mote\":\"m\",\"release\":3}"
-    );
+    assert!(rt; writes_release(rt.alloc())?);
+    assert!(rt; writes_acknowledgement(rt.alloc())?);
+    assert!(rt; writes_mote_of_two(rt.alloc())?);
+    assert!(rt; writes_mote_of_none(rt.alloc())?);
     Ok(())
 }
 
@@ -206,12 +264,24 @@ const REFUSALS: [Refusal; 3] = [
     (2, &[], "{\"refusal\":2,\"values\":[]}"),
 ];
 
+fn writes_refusal(
+    alloc: Global,
+    number: u16,
+    values: &[i64],
+    want: &str,
+) -> Result<bool, AllocError> {
+    let got = refusal_body(alloc, number, values)?;
+    Ok(got.as_str() == want)
+}
+
 // The first of these refusals that has another body.
 fn first_other_refusal(alloc: Global, rows: &[Refusal]) -> Result<Option<usize>, AllocError> {
-    for (i, (number, values, want)) in rows.iter().enumerate() {
-        if refusal_body(alloc, *number, values)?.as_str() != *want {
+    let mut i = 0usize;
+    for (number, values, want) in rows {
+        if !writes_refusal(alloc, *number, values, want)? {
             return Ok(Some(i));
         }
+        i = i.wrapping_add(1);
     }
     Ok(None)
 }
@@ -229,18 +299,23 @@ fn digest() -> [u8; 32] {
     digest
 }
 
+fn writes_version(alloc: Global, want: &str) -> Result<bool, AllocError> {
+    let got = version_body(alloc, 1, 102, &digest(), 1)?;
+    Ok(got.as_str() == want)
+}
+
+fn writes_key_taken(alloc: Global, want: &str) -> Result<bool, AllocError> {
+    let got = key_taken_body(alloc, &digest())?;
+    Ok(got.as_str() == want)
+}
+
 #[test]
 fn writes_digests(rt: HostRuntime) -> Result<(), Fail> {
-    let alloc = rt.alloc();
-    let got = version_body(alloc, 1, 102, &digest(), 1)?;
-    assert_eq!(rt;
-        got.as_str(),
-        "{\"component\":1,\"length\":102,\"sha256\":\"af05afafafafafafafafafafafafafafafafafafafafafafafafafafafafafaf\",\"version\":1}"
-    );
-    let got = key_taken_body(alloc, &digest())?;
-    assert_eq!(rt;
-        got.as_str(),
-        "{\"refusal\":4,\"sha256\":\"af05afafafafafafafafafafafafafafafafafafafafafafafafafafafafafaf\"}"
-    );
+    let want =
+        "{\"component\":1,\"length\":102,\"sha256\":\"af05afafafafafafafafafafafafafafafafafafafafafafafafafafafafafaf\",\"version\":1}";
+    assert!(rt; writes_version(rt.alloc(), want)?);
+    let want =
+        "{\"refusal\":4,\"sha256\":\"af05afafafafafafafafafafafafafafafafafafafafafafafafafafafafafaf\"}";
+    assert!(rt; writes_key_taken(rt.alloc(), want)?);
     Ok(())
 }

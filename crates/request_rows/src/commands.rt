@@ -85,10 +85,12 @@ const ROWS: [Row; 13] = [
 
 // The first of these rows whose body says something else.
 fn first_other(alloc: Global, rows: &[Row]) -> Result<Option<usize>, AllocError> {
-    for (i, (posting, body, wanted)) in rows.iter().enumerate() {
+    let mut i = 0usize;
+    for (posting, body, wanted) in rows {
         if tell(alloc, *posting, body.to_vec(alloc)?) != *wanted {
             return Ok(Some(i));
         }
+        i = i.wrapping_add(1);
     }
     Ok(None)
 }

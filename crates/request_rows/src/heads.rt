@@ -5,7 +5,7 @@ use crate::inputs::{long_head, source};
 use http_edges::{Failed, MemorySource};
 use http_heads::{BodyLength, HeadRead, body_length, read_head, request_key};
 use httparse::spans::{EMPTY_HEADER_SPAN, HeaderSpan};
-use std::alloc::Global;
+use std::alloc::{AllocError, Global};
 use std::test::Fail;
 
 #[derive(Clone, Copy, Debug, PartialEq, Eq)]
@@ -48,21 +48,34 @@ fn tell(
     }
 }
 
-// The same of an input that comes in pieces of so many bytes.
-fn tell_input(alloc: Global, input: &[u8], chunk: usize) -> Result<Told, Fail>
+// The same with room for a head.
+fn tell_source(
+    alloc: Global,
+    source: &mut MemorySource,
+    buffer: &mut [u8],
+) -> Result<Option<Told>, AllocError>
+    requires { length buffer.old ≡ 8192 }
+{
+    let mut headers = vec![in alloc; EMPTY_HEADER_SPAN; 2800]?;
+    Ok(tell(source, buffer, &mut headers).ok())
+}
+
+// The same of an input that comes in pieces of so many bytes; none where its read fails.
+fn tell_input(alloc: Global, input: &[u8], chunk: usize) -> Result<Option<Told>, AllocError>
     requires { 0 < chunk }
 {
     let mut source = source(alloc, input, chunk, 0)?;
     let mut buffer = vec![in alloc; 0; 8192]?;
-    let mut headers = vec![in alloc; EMPTY_HEADER_SPAN; 2800]?;
-    Ok(tell(&mut source, &mut buffer, &mut headers)?)
+    tell_source(alloc, &mut source, &mut buffer)
 }
 
 // Whether an input is found to be this, in large and in small pieces.
-fn is_told(alloc: Global, input: &[u8], small: usize, wanted: Told) -> Result<bool, Fail>
+fn is_told(alloc: Global, input: &[u8], small: usize, wanted: Told) -> Result<bool, AllocError>
     requires { 0 < small }
 {
-    Ok(tell_input(alloc, input, 8192)? == wanted && tell_input(alloc, input, small)? == wanted)
+    let whole = tell_input(alloc, input, 8192)?;
+    let in_pieces = tell_input(alloc, input, small)?;
+    Ok(whole == Some(wanted) && in_pieces == Some(wanted))
 }
 
 /// The bytes of a source, and what they are found to be.
@@ -129,11 +142,13 @@ const HEADS: [Row; 36] = [
 ];
 
 // The first of these rows whose bytes are found to be something else.
-fn first_other(alloc: Global, rows: &[Row]) -> Result<Option<usize>, Fail> {
-    for (i, (input, wanted)) in rows.iter().enumerate() {
+fn first_other(alloc: Global, rows: &[Row]) -> Result<Option<usize>, AllocError> {
+    let mut i = 0usize;
+    for (input, wanted) in rows {
         if !is_told(alloc, input, 1, *wanted)? {
             return Ok(Some(i));
         }
+        i = i.wrapping_add(1);
     }
     Ok(None)
 }
@@ -157,13 +172,20 @@ const LONG: [Long; 7] = [
     (9000, 0, Told::Refused),
 ];
 
+fn is_long_told(alloc: Global, row: Long) -> Result<bool, AllocError> {
+    let (target, fields, wanted) = row;
+    let input = long_head(alloc, target, fields, b"\r\n")?;
+    is_told(alloc, &input, 1000, wanted)
+}
+
 // The first of these rows whose head is found to be something else.
-fn first_other_long(alloc: Global, rows: &[Long]) -> Result<Option<usize>, Fail> {
-    for (i, (target, fields, wanted)) in rows.iter().enumerate() {
-        let input = long_head(alloc, *target, *fields, b"\r\n")?;
-        if !is_told(alloc, &input, 1000, *wanted)? {
+fn first_other_long(alloc: Global, rows: &[Long]) -> Result<Option<usize>, AllocError> {
+    let mut i = 0usize;
+    for row in rows {
+        if !is_long_told(alloc, *row)? {
             return Ok(Some(i));
         }
+        i = i.wrapping_add(1);
     }
     Ok(None)
 }

@@ -17,6 +17,26 @@ pub fn source(
     Ok(MemorySource::new(input.to_vec(alloc)?, chunk, fail))
 }
 
+fn push_times(bytes: &mut Vec<u8>, piece: &[u8], count: usize) -> Result<(), AllocError> {
+    for _ in 0..count {
+        bytes.extend_from_slice(piece)?;
+    }
+    Ok(())
+}
+
+fn push_head(
+    bytes: &mut Vec<u8>,
+    target: usize,
+    fields: usize,
+    rest: &[u8],
+) -> Result<(), AllocError> {
+    bytes.extend_from_slice(b"GET /")?;
+    push_times(bytes, b"a", target.saturating_sub(1))?;
+    bytes.extend_from_slice(b" HTTP/1.1\r\n")?;
+    push_times(bytes, b"a:b\r\n", fields)?;
+    bytes.extend_from_slice(rest)
+}
+
 /// The head of a GET whose target has so many bytes, at least one, with so many fields, and what stands behind them.
 pub fn long_head(
     alloc: Global,
@@ -24,14 +44,7 @@ pub fn long_head(
     fields: usize,
     rest: &[u8],
 ) -> Result<Vec<u8>, AllocError> {
-    let mut bytes = b"GET /".to_vec(alloc)?;
-    for _ in 1..target {
-        bytes.push(b'a')?;
-    }
-    bytes.extend_from_slice(b" HTTP/1.1\r\n")?;
-    for _ in 0..fields {
-        bytes.extend_from_slice(b"a:b\r\n")?;
-    }
-    bytes.extend_from_slice(rest)?;
+    let mut bytes = Vec::new(alloc);
+    push_head(&mut bytes, target, fields, rest)?;
     Ok(bytes)
 }

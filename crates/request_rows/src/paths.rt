@@ -4,6 +4,7 @@ ghost use Rattle.http_paths.specs.Routes.{routes};
 
 use http_paths::{Route, Target, find, make_router, path_of, query_of, read_have};
 use matchit::Router;
+use std::alloc::Global;
 use std::test::Fail;
 
 /// A target, its path, its query, and the number that the query asks for.
@@ -45,10 +46,12 @@ fn has_parts(row: &Parts) -> bool {
 
 // The first of these rows whose target has other parts.
 fn first_other(rows: &[Parts]) -> Option<usize> {
-    for (i, row) in rows.iter().enumerate() {
+    let mut i = 0usize;
+    for row in rows {
         if !has_parts(row) {
             return Some(i);
         }
+        i = i.wrapping_add(1);
     }
     None
 }
@@ -110,10 +113,12 @@ const STRANGERS: [&[u8]; 18] = [
 fn first_misnamed(router: &Router<Route>, rows: &[Named]) -> Option<usize>
     requires { router.now ≡ routes }
 {
-    for (i, (path, target)) in rows.iter().enumerate() {
+    let mut i = 0usize;
+    for (path, target) in rows {
         if find(router, path) != *target {
             return Some(i);
         }
+        i = i.wrapping_add(1);
     }
     None
 }
@@ -122,18 +127,27 @@ fn first_misnamed(router: &Router<Route>, rows: &[Named]) -> Option<usize>
 fn first_named(router: &Router<Route>, paths: &[&[u8]]) -> Option<usize>
     requires { router.now ≡ routes }
 {
-    for (i, path) in paths.iter().enumerate() {
+    let mut i = 0usize;
+    for path in paths {
         if find(router, path).is_some() {
             return Some(i);
         }
+        i = i.wrapping_add(1);
     }
     None
 }
 
+// The first row whose path names something else, and the first path that names something.
+fn first_others(alloc: Global) -> Result<(Option<usize>, Option<usize>), Fail> {
+    let router = make_router(alloc)?;
+    Ok((
+        first_misnamed(&router, &PATHS),
+        first_named(&router, &STRANGERS),
+    ))
+}
+
 #[test]
 fn paths_have_their_targets(rt: HostRuntime) -> Result<(), Fail> {
-    let router = make_router(rt.alloc())?;
-    assert_eq!(rt; first_misnamed(&router, &PATHS), None);
-    assert_eq!(rt; first_named(&router, &STRANGERS), None);
+    assert_eq!(rt; first_others(rt.alloc())?, (None, None));
     Ok(())
 }

@@ -78,6 +78,20 @@ fn tell(
     }
 }
 
+// The same with room for a request; none where a read fails.
+fn tell_source(
+    alloc: Global,
+    router: &Router<Route>,
+    source: &mut MemorySource,
+    buffer: &mut [u8],
+) -> Result<Option<Told>, AllocError>
+    requires routes { router.now ≡ routes }
+    requires room { length buffer.old ≡ 8192 }
+{
+    let mut headers = vec![in alloc; EMPTY_HEADER_SPAN; 2800]?;
+    Ok(tell(alloc, router, source, buffer, &mut headers).ok())
+}
+
 // The same of an input that comes in pieces of so many bytes, where the read of this number fails.
 fn tell_input(
     alloc: Global,
@@ -91,8 +105,7 @@ fn tell_input(
 {
     let mut source = source(alloc, input, chunk, fail)?;
     let mut buffer = vec![in alloc; 0; 8192]?;
-    let mut headers = vec![in alloc; EMPTY_HEADER_SPAN; 2800]?;
-    Ok(tell(alloc, router, &mut source, &mut buffer, &mut headers).ok())
+    tell_source(alloc, router, &mut source, &mut buffer)
 }
 
 /// The bytes of a source, and what they are found to be.
@@ -254,25 +267,27 @@ fn is_told(alloc: Global, router: &Router<Route>, row: &Row) -> Result<bool, All
 }
 
 // The first of these rows whose bytes are found to be something else.
-fn first_other(
-    alloc: Global,
-    router: &Router<Route>,
-    rows: &[Row],
-) -> Result<Option<usize>, AllocError>
+fn first_other(alloc: Global, router: &Router<Route>, rows: &[Row]) -> Result<Option<usize>, Fail>
     requires { router.now ≡ routes }
 {
-    for (i, row) in rows.iter().enumerate() {
+    let mut i = 0usize;
+    for row in rows {
         if !is_told(alloc, router, row)? {
             return Ok(Some(i));
         }
+        i = i.wrapping_add(1);
     }
     Ok(None)
 }
 
+fn first_other_of(alloc: Global, rows: &[Row]) -> Result<Option<usize>, Fail> {
+    let router = make_router(alloc)?;
+    first_other(alloc, &router, rows)
+}
+
 #[test]
 fn requests_are_told(rt: HostRuntime) -> Result<(), Fail> {
-    let router = make_router(rt.alloc())?;
-    assert_eq!(rt; first_other(rt.alloc(), &router, &REQUESTS)?, None);
+    assert_eq!(rt; first_other_of(rt.alloc(), &REQUESTS)?, None);
     Ok(())
 }
 
@@ -301,27 +316,41 @@ fn long_request(
     Ok(bytes)
 }
 
+fn is_long_told(alloc: Global, router: &Router<Route>, row: Long) -> Result<bool, AllocError>
+    requires { router.now ≡ routes }
+{
+    let (target, fields, body, wanted) = row;
+    let bytes = long_request(alloc, target, fields, body)?;
+    let told = tell_input(alloc, router, &bytes, 5000, 0)?;
+    Ok(told == Some(wanted))
+}
+
 // The first of these rows whose request is found to be something else.
 fn first_other_long(
     alloc: Global,
     router: &Router<Route>,
     rows: &[Long],
-) -> Result<Option<usize>, AllocError>
+) -> Result<Option<usize>, Fail>
     requires { router.now ≡ routes }
 {
-    for (i, (target, fields, body, wanted)) in rows.iter().enumerate() {
-        let bytes = long_request(alloc, *target, *fields, *body)?;
-        if tell_input(alloc, router, &bytes, 5000, 0)? != Some(*wanted) {
+    let mut i = 0usize;
+    for row in rows {
+        if !is_long_told(alloc, router, *row)? {
             return Ok(Some(i));
         }
+        i = i.wrapping_add(1);
     }
     Ok(None)
 }
 
+fn first_other_long_of(alloc: Global, rows: &[Long]) -> Result<Option<usize>, Fail> {
+    let router = make_router(alloc)?;
+    first_other_long(alloc, &router, rows)
+}
+
 #[test]
 fn long_requests_are_told(rt: HostRuntime) -> Result<(), Fail> {
-    let router = make_router(rt.alloc())?;
-    assert_eq!(rt; first_other_long(rt.alloc(), &router, &LONG)?, None);
+    assert_eq!(rt; first_other_long_of(rt.alloc(), &LONG)?, None);
     Ok(())
 }
 
@@ -345,13 +374,26 @@ fn first_untold(
     Ok(None)
 }
 
+// The first of eight reads whose failing isn't told, and what is told where the ninth fails.
+fn tell_faults(alloc: Global, router: &Router<Route>) -> Result<(Option<u32>, Option<Told>), Fail>
+    requires { router.now ≡ routes }
+{
+    let untold = first_untold(alloc, router, ACKNOWLEDGEMENT, 8)?;
+    // There is no ninth read.
+    let told = tell_input(alloc, router, ACKNOWLEDGEMENT, 10, 9)?;
+    Ok((untold, told))
+}
+
+fn tell_faults_of(alloc: Global) -> Result<(Option<u32>, Option<Told>), Fail> {
+    let router = make_router(alloc)?;
+    tell_faults(alloc, &router)
+}
+
 #[test]
 fn faults_are_told(rt: HostRuntime) -> Result<(), Fail> {
-    let alloc = rt.alloc();
-    let router = make_router(alloc)?;
-    assert_eq!(rt; first_untold(alloc, &router, ACKNOWLEDGEMENT, 8)?, None);
-    // There is no ninth read.
-    let told = tell_input(alloc, &router, ACKNOWLEDGEMENT, 10, 9)?;
-    assert_eq!(rt; told, Some(Told::Post(3, true)));
+    assert_eq!(rt;
+        tell_faults_of(rt.alloc())?,
+        (None, Some(Told::Post(3, true)))
+    );
     Ok(())
 }

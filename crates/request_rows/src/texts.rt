@@ -24,10 +24,12 @@ const TEXTS: [Row<&[u8]>; 12] = [
 
 // The first of these rows whose text is something else.
 fn first_other(rows: &[Row<&[u8]>]) -> Option<usize> {
-    for (i, (text, name, key)) in rows.iter().enumerate() {
+    let mut i = 0usize;
+    for (text, name, key) in rows {
         if is_name(text) != *name || is_key(text) != *key {
             return Some(i);
         }
+        i = i.wrapping_add(1);
     }
     None
 }
@@ -85,10 +87,12 @@ const NUMBERS: [Number; 14] = [
 
 // The first of these rows whose text is another number, or none.
 fn first_misread(rows: &[Number]) -> Option<usize> {
-    for (i, (most, text, number)) in rows.iter().enumerate() {
+    let mut i = 0usize;
+    for (most, text, number) in rows {
         if read_number(*most, text) != *number {
             return Some(i);
         }
+        i = i.wrapping_add(1);
     }
     None
 }

@@ -50,10 +50,8 @@ const FIRST_UPDATE: [u8; 245] = [
 
 const END: [u8; 3] = [8, 0, 0];
 
-fn push_number(into: &mut Vec<u8>, number: usize) -> Result<(), AllocError> {
-    into.push((number % 256) as u8)?;
-    into.push((number / 256 % 256) as u8)?;
-    Ok(())
+fn push_number(into: &mut Vec<u8>, number: u16) -> Result<(), AllocError> {
+    into.extend_from_slice(&number.to_le_bytes())
 }
 
 // A package of a component, with so many bytes in all: a code of zeros alone.
@@ -61,7 +59,7 @@ fn package(alloc: Global, component: u16, version: u16, length: u16) -> Result<B
     let mut bytes = Vec::from_array(alloc, [0x46, 0x43, 0x50, 0x31])?;
     let code = length.saturating_sub(32);
     for number in [component, version, code, 0, 0, 0, 0] {
-        push_number(&mut bytes, number as usize)?;
+        push_number(&mut bytes, number)?;
     }
     for _ in 0..14 {
         bytes.push(0)?;
@@ -91,11 +89,12 @@ const NAMES: [&str; 16] = [
     "a", "b", "c", "d", "e", "f", "g", "h", "i", "j", "k", "l", "m", "n", "o", "p",
 ];
 
+fn name_at(place: usize) -> &'static str {
+    NAMES.get(place).copied().unwrap_or("a")
+}
+
 fn name(component: u16) -> &'static str {
-    NAMES
-        .get((component as usize).saturating_sub(1))
-        .copied()
-        .unwrap_or("a")
+    name_at((component as usize).saturating_sub(1))
 }
 
 fn is_package_of(component: u16, version: u16, bytes: &[u8]) -> bool
@@ -136,15 +135,22 @@ fn add_version(
     Ok(true)
 }
 
-// Components with their versions.
-fn named(alloc: Global, parts: &[(u16, u16)]) -> Result<Vec<Part>, AllocError> {
+// A component by its letter, in the version of this digit.
+fn part(alloc: Global, letter: u8, digit: u8) -> Result<Part, AllocError> {
+    let place = letter.saturating_sub(b'a') as usize;
+    Ok(Part {
+        component: text_of(alloc, name_at(place))?,
+        version: digit.saturating_sub(b'0') as u16,
+    })
+}
+
+// Components with their versions, as `a1b2`: a in version 1 and b in version 2.
+fn named(alloc: Global, parts: &[u8]) -> Result<Vec<Part>, AllocError> {
     let mut named = Vec::new(alloc);
-    for (component, version) in parts {
-        let part = Part {
-            component: text_of(alloc, name(*component))?,
-            version: *version,
-        };
-        named.push(part)?;
+    for pair in parts.chunks_exact(2) {
+        if let [letter, digit] = pair {
+            named.push(part(alloc, *letter, *digit)?)?;
+        }
     }
     Ok(named)
 }
@@ -154,7 +160,7 @@ fn add_release(
     alloc: Global,
     keeper: &mut MemoryKeeper,
     mote: &str,
-    parts: &[(u16, u16)],
+    parts: &[u8],
 ) -> Result<bool, RowsFault> {
     let parts = named(alloc, parts)?;
     if parts.is_empty() || 16 < parts.len() {
@@ -172,19 +178,19 @@ fn add_release(
 
 // A frame, its payload, and what comes behind it.
 fn frame(bytes: &[u8]) -> Option<(u8, &[u8], &[u8])> {
-    if bytes.len() < 3 {
+    let [kind, low, high, behind @ ..] = bytes else {
         return None;
-    }
-    let length = bytes[1] as usize + 256 * bytes[2] as usize;
-    let behind = &bytes[3..];
-    if behind.len() < length {
-        return None;
-    }
-    Some((bytes[0], &behind[..length], &behind[length..]))
+    };
+    let length = u16::from_le_bytes([*low, *high]) as usize;
+    let (payload, rest) = behind.split_at_checked(length)?;
+    Some((*kind, payload, rest))
 }
 
 // A piece: the component's ordinal, the page, and how many bytes of the package.
 type Piece = (u8, u8, usize);
+
+// No piece, in a row that has fewer than others.
+const NONE: Piece = (0, 0, 0);
 
 fn is_piece(kind: u8, payload: &[u8], piece: Piece) -> bool {
     let (ordinal, page, length) = piece;
@@ -204,6 +210,9 @@ fn is_update(bytes: &[u8], release: u16, count: u8, pieces: &[Piece]) -> bool {
         return false;
     }
     for piece in pieces {
+        if *piece == NONE {
+            continue;
+        }
         let Some((kind, payload, behind)) = frame(rest) else {
             return false;
         };
@@ -215,11 +224,20 @@ fn is_update(bytes: &[u8], release: u16, count: u8, pieces: &[Piece]) -> bool {
     rest == [3, 0, 0, 4, 0, 0, 8, 0, 0].as_slice()
 }
 
+// What is answered: the worked update, END alone, or nothing.
+#[derive(Clone, Copy)]
+enum Wanted {
+    Worked,
+    End,
+    Nothing,
+}
+
 // Whether the answer is this one.
-fn is_answer(answer: Option<Bytes>, want: Option<&[u8]>) -> bool {
-    match (answer, want) {
-        (Some(bytes), Some(want)) => bytes.as_slice() == want,
-        (None, None) => true,
+fn is_answer(answer: Option<Bytes>, wanted: Wanted) -> bool {
+    match (answer, wanted) {
+        (Some(bytes), Wanted::Worked) => bytes.as_slice() == FIRST_UPDATE.as_slice(),
+        (Some(bytes), Wanted::End) => bytes.as_slice() == END.as_slice(),
+        (None, Wanted::Nothing) => true,
         _ => false,
     }
 }
@@ -237,24 +255,23 @@ fn add_both(alloc: Global, keeper: &mut MemoryKeeper) -> Result<bool, RowsFault>
     Ok(
         add_version(alloc, keeper, 1, 1, sender(alloc)?)?
             && add_version(alloc, keeper, 2, 1, radio(alloc)?)?
-            && add_release(alloc, keeper, "m1", &[(1, 1), (2, 1)])?,
+            && add_release(alloc, keeper, "m1", b"a1b1")?,
     )
 }
 
+// A mote, the release that it has, and what it is answered.
+type Asked = (&'static str, u32, Wanted);
+
 // Where the answer is END alone, and where there is none.
-const WORKED: [(&str, u32, Option<&[u8]>); 5] = [
-    ("m1", 1, Some(&END)),
-    ("m1", 2, None),
-    ("m1", 4294967295, None),
-    ("m2", 0, None),
-    ("", 1, None),
+const WORKED: [Asked; 5] = [
+    ("m1", 1, Wanted::End),
+    ("m1", 2, Wanted::Nothing),
+    ("m1", 4294967295, Wanted::Nothing),
+    ("m2", 0, Wanted::Nothing),
+    ("", 1, Wanted::Nothing),
 ];
 
-fn answers(
-    alloc: Global,
-    keeper: &mut MemoryKeeper,
-    row: (&str, u32, Option<&[u8]>),
-) -> Result<bool, RowsFault> {
+fn answers(alloc: Global, keeper: &mut MemoryKeeper, row: Asked) -> Result<bool, RowsFault> {
     let answer = update_frames(alloc, keeper, row.0, row.1)?;
     Ok(is_answer(answer, row.2))
 }
@@ -263,7 +280,7 @@ fn answers(
 fn are_answers(
     alloc: Global,
     keeper: &mut MemoryKeeper,
-    rows: &[(&str, u32, Option<&[u8]>)],
+    rows: &[Asked],
 ) -> Result<bool, RowsFault> {
     for row in rows {
         if !answers(alloc, keeper, *row)? {
@@ -274,7 +291,7 @@ fn are_answers(
 }
 
 fn answers_first(alloc: Global, keeper: &mut MemoryKeeper) -> Result<bool, RowsFault> {
-    answers(alloc, keeper, ("m1", 0, Some(&FIRST_UPDATE)))
+    answers(alloc, keeper, ("m1", 0, Wanted::Worked))
 }
 
 fn answers_worked(alloc: Global, keeper: &mut MemoryKeeper) -> Result<bool, RowsFault> {
@@ -286,10 +303,14 @@ fn is_worked(alloc: Global, keeper: &mut MemoryKeeper) -> Result<bool, RowsFault
     Ok(add_both(alloc, keeper)? && answers_first(alloc, keeper)? && answers_worked(alloc, keeper)?)
 }
 
+fn begins_worked(alloc: Global) -> Result<bool, RowsFault> {
+    let mut keeper = MemoryKeeper::new(alloc, Vec::new(alloc));
+    is_worked(alloc, &mut keeper)
+}
+
 #[test]
 fn worked_update(rt: HostRuntime) -> Result<(), Fail> {
-    let mut keeper = MemoryKeeper::new(rt.alloc(), Vec::new(rt.alloc()));
-    assert!(rt; is_worked(rt.alloc(), &mut keeper)?);
+    assert!(rt; begins_worked(rt.alloc())?);
     Ok(())
 }
 
@@ -313,7 +334,7 @@ fn failing_calls(rt: HostRuntime) -> Result<(), Fail> {
 
 // Both releases, of the same two packages.
 fn add_second(alloc: Global, keeper: &mut MemoryKeeper) -> Result<bool, RowsFault> {
-    Ok(add_both(alloc, keeper)? && add_release(alloc, keeper, "m1", &[(2, 1), (1, 1)])?)
+    Ok(add_both(alloc, keeper)? && add_release(alloc, keeper, "m1", b"b1a1")?)
 }
 
 // Whether the update from release 1 to release 2 fails, where what comes before it doesn't.
@@ -335,15 +356,17 @@ fn fails(alloc: Global, call: u32) -> Result<bool, AllocError> {
 }
 
 // The length of a package, and the bytes of its pieces.
-const SIZES: [(u16, &[Piece]); 8] = [
-    (32, &[(0, 0, 32)]),
-    (34, &[(0, 0, 34)]),
-    (254, &[(0, 0, 254)]),
-    (256, &[(0, 0, 256)]),
-    (258, &[(0, 0, 256), (0, 1, 2)]),
-    (510, &[(0, 0, 256), (0, 1, 254)]),
-    (512, &[(0, 0, 256), (0, 1, 256)]),
-    (514, &[(0, 0, 256), (0, 1, 256), (0, 2, 2)]),
+type Size = (u16, [Piece; 3]);
+
+const SIZES: [Size; 8] = [
+    (32, [(0, 0, 32), NONE, NONE]),
+    (34, [(0, 0, 34), NONE, NONE]),
+    (254, [(0, 0, 254), NONE, NONE]),
+    (256, [(0, 0, 256), NONE, NONE]),
+    (258, [(0, 0, 256), (0, 1, 2), NONE]),
+    (510, [(0, 0, 256), (0, 1, 254), NONE]),
+    (512, [(0, 0, 256), (0, 1, 256), NONE]),
+    (514, [(0, 0, 256), (0, 1, 256), (0, 2, 2)]),
 ];
 
 // Keeps a version of a component, with so many bytes in all.
@@ -372,6 +395,11 @@ fn is_step(
     }
 }
 
+// Keeps a package of this length, and a release of it.
+fn add_only(alloc: Global, keeper: &mut MemoryKeeper, length: u16) -> Result<bool, RowsFault> {
+    Ok(add_package(alloc, keeper, (1, 1, length))? && add_release(alloc, keeper, "m1", b"a1")?)
+}
+
 // Whether the update to a package of this length has these pieces.
 fn sends_pieces(
     alloc: Global,
@@ -379,11 +407,7 @@ fn sends_pieces(
     length: u16,
     pieces: &[Piece],
 ) -> Result<bool, RowsFault> {
-    Ok(
-        add_package(alloc, keeper, (1, 1, length))?
-            && add_release(alloc, keeper, "m1", &[(1, 1)])?
-            && is_step(alloc, keeper, 0, (1, 1), pieces)?,
-    )
+    Ok(add_only(alloc, keeper, length)? && is_step(alloc, keeper, 0, (1, 1), pieces)?)
 }
 
 fn has_pieces(alloc: Global, length: u16, pieces: &[Piece]) -> Result<bool, RowsFault> {
@@ -391,7 +415,7 @@ fn has_pieces(alloc: Global, length: u16, pieces: &[Piece]) -> Result<bool, Rows
     sends_pieces(alloc, &mut keeper, length, pieces)
 }
 
-fn have_pieces(alloc: Global, rows: &[(u16, &[Piece])]) -> Result<bool, RowsFault> {
+fn have_pieces(alloc: Global, rows: &[Size]) -> Result<bool, RowsFault> {
     for (length, pieces) in rows {
         if !has_pieces(alloc, *length, pieces)? {
             return Ok(false);
@@ -415,29 +439,30 @@ fn full_pages(alloc: Global) -> Result<Vec<Piece>, AllocError> {
     Ok(pieces)
 }
 
+fn has_full_pages(alloc: Global) -> Result<bool, RowsFault> {
+    let pieces = full_pages(alloc)?;
+    has_pieces(alloc, 9984, &pieces)
+}
+
 #[test]
 fn greatest_package(rt: HostRuntime) -> Result<(), Fail> {
-    let pieces = full_pages(rt.alloc())?;
-    assert!(rt; has_pieces(rt.alloc(), 9984, &pieces)?);
+    assert!(rt; has_full_pages(rt.alloc())?);
     Ok(())
 }
 
 // Releases of a mote: the parts, and the versions that are new with each.
-const RELEASES: [&[(u16, u16)]; 5] = [
-    &[(1, 1), (2, 1)],
-    &[(2, 2), (1, 1)],
-    &[(3, 1), (2, 1), (1, 1)],
-    &[(1, 2)],
-    &[(3, 1), (1, 1), (2, 2)],
-];
+const RELEASES: [&[u8]; 5] = [b"a1b1", b"b2a1", b"c1b1a1", b"a2", b"c1a1b2"];
+
+// The release that a mote has, and the pieces that it is sent.
+type Step = (u32, [Piece; 4]);
 
 // From each release, and the pieces of the last: of component 3, then of 1 in version 1, then of 2 in version 2.
-const STEPS: [(u32, &[Piece]); 5] = [
-    (0, &[(0, 0, 40), (1, 0, 32), (2, 0, 256), (2, 1, 2)]),
-    (1, &[(0, 0, 40), (2, 0, 256), (2, 1, 2)]),
-    (2, &[(0, 0, 40)]),
-    (3, &[(2, 0, 256), (2, 1, 2)]),
-    (4, &[(0, 0, 40), (1, 0, 32), (2, 0, 256), (2, 1, 2)]),
+const STEPS: [Step; 5] = [
+    (0, [(0, 0, 40), (1, 0, 32), (2, 0, 256), (2, 1, 2)]),
+    (1, [(0, 0, 40), (2, 0, 256), (2, 1, 2), NONE]),
+    (2, [(0, 0, 40), NONE, NONE, NONE]),
+    (3, [(2, 0, 256), (2, 1, 2), NONE, NONE]),
+    (4, [(0, 0, 40), (1, 0, 32), (2, 0, 256), (2, 1, 2)]),
 ];
 
 const VERSIONS: [(u16, u16, u16); 5] = [
@@ -464,7 +489,7 @@ fn add_versions(
 fn add_releases(
     alloc: Global,
     keeper: &mut MemoryKeeper,
-    releases: &[&[(u16, u16)]],
+    releases: &[&[u8]],
 ) -> Result<bool, RowsFault> {
     for parts in releases {
         if !add_release(alloc, keeper, "m1", parts)? {
@@ -479,7 +504,7 @@ fn are_steps(
     alloc: Global,
     keeper: &mut MemoryKeeper,
     of: (u16, u8),
-    rows: &[(u32, &[Piece])],
+    rows: &[Step],
 ) -> Result<bool, RowsFault> {
     for (have, pieces) in rows {
         if !is_step(alloc, keeper, *have, of, pieces)? {
@@ -490,10 +515,10 @@ fn are_steps(
 }
 
 // What is answered where there is nothing to send.
-const OF_FIVE: [(&str, u32, Option<&[u8]>); 3] = [
-    ("m1", 5, Some(&END)),
-    ("m1", 6, None),
-    ("m2", 0, None),
+const OF_FIVE: [Asked; 3] = [
+    ("m1", 5, Wanted::End),
+    ("m1", 6, Wanted::Nothing),
+    ("m2", 0, Wanted::Nothing),
 ];
 
 fn add_five_versions(alloc: Global, keeper: &mut MemoryKeeper) -> Result<bool, RowsFault> {
@@ -512,31 +537,33 @@ fn are_answers_of_five(alloc: Global, keeper: &mut MemoryKeeper) -> Result<bool,
     are_answers(alloc, keeper, &OF_FIVE)
 }
 
+fn add_five(alloc: Global, keeper: &mut MemoryKeeper) -> Result<bool, RowsFault> {
+    Ok(add_five_versions(alloc, keeper)? && add_five_releases(alloc, keeper)?)
+}
+
+fn is_of_five(alloc: Global, keeper: &mut MemoryKeeper) -> Result<bool, RowsFault> {
+    Ok(are_steps_to_five(alloc, keeper)? && are_answers_of_five(alloc, keeper)?)
+}
+
 fn is_from_each(alloc: Global, keeper: &mut MemoryKeeper) -> Result<bool, RowsFault> {
-    Ok(
-        add_five_versions(alloc, keeper)?
-            && add_five_releases(alloc, keeper)?
-            && are_steps_to_five(alloc, keeper)?
-            && are_answers_of_five(alloc, keeper)?,
-    )
+    Ok(add_five(alloc, keeper)? && is_of_five(alloc, keeper)?)
+}
+
+fn begins_from_each(alloc: Global) -> Result<bool, RowsFault> {
+    let mut keeper = MemoryKeeper::new(alloc, Vec::new(alloc));
+    is_from_each(alloc, &mut keeper)
 }
 
 #[test]
 fn from_each_release(rt: HostRuntime) -> Result<(), Fail> {
-    let mut keeper = MemoryKeeper::new(rt.alloc(), Vec::new(rt.alloc()));
-    assert!(rt; is_from_each(rt.alloc(), &mut keeper)?);
+    assert!(rt; begins_from_each(rt.alloc())?);
     Ok(())
 }
 
-// Components 1 to 16 in version 1, the last one in this version.
-fn sixteen(alloc: Global, last: u16) -> Result<Vec<(u16, u16)>, AllocError> {
-    let mut parts = Vec::new(alloc);
-    for component in 1..16u16 {
-        parts.push((component, 1))?;
-    }
-    parts.push((16, last))?;
-    Ok(parts)
-}
+// Components 1 to 16 in version 1, and with the last one in version 2.
+const SIXTEEN: &[u8] = b"a1b1c1d1e1f1g1h1i1j1k1l1m1n1o1p1";
+
+const SIXTEEN_NEXT: &[u8] = b"a1b1c1d1e1f1g1h1i1j1k1l1m1n1o1p2";
 
 // Sixteen components, and the last one in a second version.
 fn add_seventeen_versions(alloc: Global, keeper: &mut MemoryKeeper) -> Result<bool, RowsFault> {
@@ -548,21 +575,25 @@ fn add_seventeen_versions(alloc: Global, keeper: &mut MemoryKeeper) -> Result<bo
     add_package(alloc, keeper, (16, 2, 34))
 }
 
-// A release of sixteen components, the last one in this version.
-fn add_sixteen(alloc: Global, keeper: &mut MemoryKeeper, last: u16) -> Result<bool, RowsFault> {
-    let parts = sixteen(alloc, last)?;
-    add_release(alloc, keeper, "m1", &parts)
-}
-
 // All pieces of the release of sixteen.
-fn sixteen_pieces(alloc: Global) -> Result<Vec<Piece>, AllocError> {
-    let mut pieces = Vec::new(alloc);
-    for ordinal in 0..15u8 {
-        pieces.push((ordinal, 0, 32))?;
-    }
-    pieces.push((15, 0, 34))?;
-    Ok(pieces)
-}
+const SIXTEEN_PIECES: [Piece; 16] = [
+    (0, 0, 32),
+    (1, 0, 32),
+    (2, 0, 32),
+    (3, 0, 32),
+    (4, 0, 32),
+    (5, 0, 32),
+    (6, 0, 32),
+    (7, 0, 32),
+    (8, 0, 32),
+    (9, 0, 32),
+    (10, 0, 32),
+    (11, 0, 32),
+    (12, 0, 32),
+    (13, 0, 32),
+    (14, 0, 32),
+    (15, 0, 34),
+];
 
 // Whether the update from nothing has these pieces, and the one from the release before the last one alone.
 fn is_of_sixteen(
@@ -572,24 +603,27 @@ fn is_of_sixteen(
 ) -> Result<bool, RowsFault> {
     Ok(
         add_seventeen_versions(alloc, keeper)?
-            && add_sixteen(alloc, keeper, 1)?
-            && add_sixteen(alloc, keeper, 2)?
+            && add_release(alloc, keeper, "m1", SIXTEEN)?
+            && add_release(alloc, keeper, "m1", SIXTEEN_NEXT)?
             && is_step(alloc, keeper, 0, (2, 16), pieces)?
             && is_step(alloc, keeper, 1, (2, 16), &[(15, 0, 34)])?,
     )
 }
 
+fn begins_sixteen(alloc: Global) -> Result<bool, RowsFault> {
+    let mut keeper = MemoryKeeper::new(alloc, Vec::new(alloc));
+    is_of_sixteen(alloc, &mut keeper, &SIXTEEN_PIECES)
+}
+
 #[test]
 fn sixteen_components(rt: HostRuntime) -> Result<(), Fail> {
-    let pieces = sixteen_pieces(rt.alloc())?;
-    let mut keeper = MemoryKeeper::new(rt.alloc(), Vec::new(rt.alloc()));
-    assert!(rt; is_of_sixteen(rt.alloc(), &mut keeper, &pieces)?);
+    assert!(rt; begins_sixteen(rt.alloc())?);
     Ok(())
 }
 
 // A release of version 2 of one component, and one of version 1.
 fn add_two_releases(alloc: Global, keeper: &mut MemoryKeeper) -> Result<bool, RowsFault> {
-    Ok(add_release(alloc, keeper, "m1", &[(1, 2)])? && add_release(alloc, keeper, "m1", &[(1, 1)])?)
+    Ok(add_release(alloc, keeper, "m1", b"a2")? && add_release(alloc, keeper, "m1", b"a1")?)
 }
 
 fn add_thousand_releases(alloc: Global, keeper: &mut MemoryKeeper) -> Result<bool, RowsFault> {
@@ -610,19 +644,16 @@ fn add_thousand(alloc: Global, keeper: &mut MemoryKeeper) -> Result<bool, RowsFa
     )
 }
 
-const OF_THOUSAND: [(u32, &[Piece]); 6] = [
-    (0, &[(0, 0, 32)]),
-    (1, &[(0, 0, 32)]),
-    (2, &[]),
-    (997, &[(0, 0, 32)]),
-    (998, &[]),
-    (999, &[(0, 0, 32)]),
+const OF_THOUSAND: [Step; 6] = [
+    (0, [(0, 0, 32), NONE, NONE, NONE]),
+    (1, [(0, 0, 32), NONE, NONE, NONE]),
+    (2, [NONE; 4]),
+    (997, [(0, 0, 32), NONE, NONE, NONE]),
+    (998, [NONE; 4]),
+    (999, [(0, 0, 32), NONE, NONE, NONE]),
 ];
 
-const BEHIND_THOUSAND: [(&str, u32, Option<&[u8]>); 2] = [
-    ("m1", 1000, Some(&END)),
-    ("m1", 1001, None),
-];
+const BEHIND_THOUSAND: [Asked; 2] = [("m1", 1000, Wanted::End), ("m1", 1001, Wanted::Nothing)];
 
 fn are_steps_to_thousand(alloc: Global, keeper: &mut MemoryKeeper) -> Result<bool, RowsFault> {
     are_steps(alloc, keeper, (1000, 1), &OF_THOUSAND)
@@ -640,9 +671,13 @@ fn is_of_thousand(alloc: Global, keeper: &mut MemoryKeeper) -> Result<bool, Rows
     )
 }
 
+fn begins_thousand(alloc: Global) -> Result<bool, RowsFault> {
+    let mut keeper = MemoryKeeper::new(alloc, Vec::new(alloc));
+    is_of_thousand(alloc, &mut keeper)
+}
+
 #[test]
 fn thousand_releases(rt: HostRuntime) -> Result<(), Fail> {
-    let mut keeper = MemoryKeeper::new(rt.alloc(), Vec::new(rt.alloc()));
-    assert!(rt; is_of_thousand(rt.alloc(), &mut keeper)?);
+    assert!(rt; begins_thousand(rt.alloc())?);
     Ok(())
 }

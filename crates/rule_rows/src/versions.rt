@@ -7,7 +7,7 @@ use crate::objects::{Object, object_file};
 use component_package::{Bytes, Text};
 use release_judging::{Judged, text_of};
 use release_keeper::{Keeper, MemoryKeeper};
-use release_rows::{Change, Effect, KeyRow, NumberedParts, Rows, RowsFault};
+use release_rows::{Change, Effect, KeyRow, NumberedParts, Rows, RowsFault, SymbolRow};
 use release_versions::judge_version;
 use std::alloc::{AllocError, Global};
 use std::process::Abort;
@@ -21,15 +21,11 @@ const PACKAGE: [u8; 102] = [
     0, 5, 0, 2, 0, 0, 7, 1, 0, 5, 0, 4, 0, 0, 18, 18, 0, 0, 0, 8, 0, 0, 3, 0, 0, 0, 0,
 ];
 
-/// What is said of an object, as numbers: of a refusal its number and its values; of a version 0, the component, the version and the
-/// numbers of the new symbols.
-fn numbers_of(alloc: Global, judged: &Judged) -> Result<Vec<i64>, AllocError> {
-    let mut numbers = Vec::new(alloc);
+/// What is said of an object: of a refusal its number and its values; of a version 0, the component, the version and the numbers of the
+/// new symbols.
+fn said(alloc: Global, judged: &Judged) -> Result<String, AllocError> {
     match judged {
-        Judged::Refused { number, values } => {
-            numbers.push(*number as i64)?;
-            numbers.extend_from_slice(values.as_slice())?;
-        }
+        Judged::Refused { number, values } => with_values(alloc, *number, values.as_slice()),
         Judged::Does(
             Effect::Version {
                 component,
@@ -37,15 +33,30 @@ fn numbers_of(alloc: Global, judged: &Judged) -> Result<Vec<i64>, AllocError> {
                 symbols,
                 ..
             },
-        ) => {
-            numbers.extend_from_slice(&[0, *component as i64, *version as i64])?;
-            for row in symbols.as_slice() {
-                numbers.push(row.number as i64)?;
-            }
-        }
-        _ => numbers.push(-1)?,
+        ) => with_symbols(alloc, *component, *version, symbols.as_slice()),
+        _ => String::from_str(alloc, "other"),
     }
-    Ok(numbers)
+}
+
+fn with_values(alloc: Global, number: u16, values: &[i64]) -> Result<String, AllocError> {
+    let mut text = format!(in alloc; "{number}")?;
+    for value in values {
+        text.push_str(&format!(in alloc; " {value}")?)?;
+    }
+    Ok(text)
+}
+
+fn with_symbols(
+    alloc: Global,
+    component: u16,
+    version: u16,
+    rows: &[SymbolRow],
+) -> Result<String, AllocError> {
+    let mut text = format!(in alloc; "0 {component} {version}")?;
+    for row in rows {
+        text.push_str(&format!(in alloc; " {}", row.number)?)?;
+    }
+    Ok(text)
 }
 
 /// Rows that tell nothing, and answer what a test wants: how many components, versions and symbols there are, and the numbers of the
@@ -124,22 +135,22 @@ const EMPTY: Answers = Answers {
 };
 
 /// Answers of rows, and what is said of the sender where they answer so.
-const CASES: [(Answers, &'static [i64]); 20] = [
-    (EMPTY, &[0, 1, 1, 16, 17, 18]),
+const CASES: [(Answers, &'static str); 20] = [
+    (EMPTY, "0 1 1 16 17 18"),
     // Room for components, then for versions, then for symbols.
     (
         Answers {
             components: 65_534,
             ..EMPTY
         },
-        &[0, 65_535, 1, 16, 17, 18],
+        "0 65535 1 16 17 18",
     ),
     (
         Answers {
             components: 65_535,
             ..EMPTY
         },
-        &[52],
+        "52",
     ),
     (
         Answers {
@@ -148,14 +159,14 @@ const CASES: [(Answers, &'static [i64]); 20] = [
             symbols: 65_520,
             ..EMPTY
         },
-        &[52],
+        "52",
     ),
     (
         Answers {
             components: u32::MAX,
             ..EMPTY
         },
-        &[52],
+        "52",
     ),
     (
         Answers {
@@ -163,7 +174,7 @@ const CASES: [(Answers, &'static [i64]); 20] = [
             components: 65_535,
             ..EMPTY
         },
-        &[0, 7, 1, 16, 17, 18],
+        "0 7 1 16 17 18",
     ),
     (
         Answers {
@@ -171,7 +182,7 @@ const CASES: [(Answers, &'static [i64]); 20] = [
             versions: 65_534,
             ..EMPTY
         },
-        &[0, 7, 65_535, 16, 17, 18],
+        "0 7 65535 16 17 18",
     ),
     (
         Answers {
@@ -179,7 +190,7 @@ const CASES: [(Answers, &'static [i64]); 20] = [
             versions: 65_535,
             ..EMPTY
         },
-        &[53],
+        "53",
     ),
     (
         Answers {
@@ -188,28 +199,28 @@ const CASES: [(Answers, &'static [i64]); 20] = [
             symbols: 65_520,
             ..EMPTY
         },
-        &[53],
+        "53",
     ),
     (
         Answers {
             symbols: 65_517,
             ..EMPTY
         },
-        &[0, 1, 1, 65_533, 65_534, 65_535],
+        "0 1 1 65533 65534 65535",
     ),
     (
         Answers {
             symbols: 65_518,
             ..EMPTY
         },
-        &[51],
+        "51",
     ),
     (
         Answers {
             symbols: u32::MAX,
             ..EMPTY
         },
-        &[51],
+        "51",
     ),
     // Names that have numbers take no new ones.
     (
@@ -218,7 +229,7 @@ const CASES: [(Answers, &'static [i64]); 20] = [
             known: [None, Some(16), None],
             ..EMPTY
         },
-        &[0, 1, 1, 25, 26],
+        "0 1 1 25 26",
     ),
     (
         Answers {
@@ -226,7 +237,7 @@ const CASES: [(Answers, &'static [i64]); 20] = [
             known: [Some(20), Some(16), None],
             ..EMPTY
         },
-        &[0, 1, 1, 65_535],
+        "0 1 1 65535",
     ),
     (
         Answers {
@@ -234,7 +245,7 @@ const CASES: [(Answers, &'static [i64]); 20] = [
             known: [Some(20), Some(16), None],
             ..EMPTY
         },
-        &[51],
+        "51",
     ),
     (
         Answers {
@@ -242,7 +253,7 @@ const CASES: [(Answers, &'static [i64]); 20] = [
             known: [Some(20), Some(16), Some(65_535)],
             ..EMPTY
         },
-        &[0, 1, 1],
+        "0 1 1",
     ),
     // Numbers that can't be those of three names.
     (
@@ -251,7 +262,7 @@ const CASES: [(Answers, &'static [i64]); 20] = [
             known: [Some(20), Some(16), Some(20)],
             ..EMPTY
         },
-        &[51],
+        "51",
     ),
     (
         Answers {
@@ -259,7 +270,7 @@ const CASES: [(Answers, &'static [i64]); 20] = [
             known: [Some(20), Some(25), None],
             ..EMPTY
         },
-        &[51],
+        "51",
     ),
     (
         Answers {
@@ -267,7 +278,7 @@ const CASES: [(Answers, &'static [i64]); 20] = [
             known: [Some(20), Some(15), None],
             ..EMPTY
         },
-        &[51],
+        "51",
     ),
     (
         Answers {
@@ -275,7 +286,7 @@ const CASES: [(Answers, &'static [i64]); 20] = [
             known: [Some(0), None, None],
             ..EMPTY
         },
-        &[51],
+        "51",
     ),
 ];
 
@@ -284,20 +295,20 @@ fn check_case(
     alloc: Global,
     object: &[u8],
     answers: Answers,
-    wanted: &[i64],
+    wanted: &str,
 ) -> Result<(), Fail> {
     assert!(rt; object.len() <= 262_144);
     let mut rows = answers;
     let judged = judge_version(alloc, &mut rows, "sender", object).map_err(|_| "a fault")?;
-    let numbers = numbers_of(alloc, &judged)?;
-    assert_eq!(rt; numbers.as_slice(), wanted);
+    let text = said(alloc, &judged)?;
+    assert_eq!(rt; text.as_str(), wanted);
     Ok(())
 }
 
 fn check_cases(
     rt: &impl Abort,
     alloc: Global,
-    cases: &[(Answers, &'static [i64])],
+    cases: &[(Answers, &'static str)],
 ) -> Result<(), Fail> {
     let object = object_file(alloc, Object::Sender)?;
     for (answers, wanted) in cases {
@@ -317,104 +328,131 @@ const RADIO_PACKAGE: [u8; 40] = [
     0, 0, 0, 0, 0x08, 0x95, 18, 0, 0, 0, 0, 0,
 ];
 
-// Makes the version that was judged, under a key; answers its package.
-fn make(alloc: Global, rows: &mut MemoryKeeper, judged: Judged, key: &str) -> Result<Vec<u8>, Fail>
+// Makes what was judged, under a key; whether there was anything to make, and it was made.
+fn make(rows: &mut MemoryKeeper, judged: Judged, key: KeyRow) -> bool
     requires { IsSoundly judged }
 {
-    let Judged::Does(effect) = judged else {
-        return Err("nothing is done".into());
-    };
-    let Effect::Version { package, .. } = &effect else {
-        return Err("no version".into());
-    };
-    let package = package.as_slice().to_vec(alloc)?;
-    let key = KeyRow {
+    match judged {
+        Judged::Does(effect) => rows.apply(&Change { effect, key }).is_ok(),
+        _ => false,
+    }
+}
+
+// The package of the version that was judged.
+fn package_of(judged: &Judged) -> &[u8] {
+    match judged {
+        Judged::Does(Effect::Version { package, .. }) => package.as_slice(),
+        _ => b"",
+    }
+}
+
+fn key_row(alloc: Global, key: &str) -> Result<KeyRow, AllocError> {
+    Ok(KeyRow {
         key: text_of(alloc, key)?,
         digest: [0; 32],
         body: text_of(alloc, "")?,
-    };
-    rows.apply(&Change { effect, key })
-        .map_err(|_| "the change failed")?;
-    Ok(package)
+    })
 }
 
-// What is to be kept: an object under a name and a key, and the numbers that it is to be given.
+// What is to be kept: an object under a name and a key; what is to be said of it, how long its package is to be, and how that begins.
 #[derive(Clone, Copy, Drop)]
 struct Posted<'a> {
     name: &'a str,
     key: &'a str,
-    object: &'a [u8],
-    wanted: &'a [i64],
+    object: Object,
+    wanted: &'a str,
+    length: usize,
+    start: &'a [u8],
 }
 
-// Keeps an object where it is given the numbers that are wanted; answers its package.
-fn keep(alloc: Global, rows: &mut MemoryKeeper, posted: &Posted<'_>) -> Result<Vec<u8>, Fail> {
-    if 262_144 < posted.object.len() {
-        return Err("too long an object".into());
-    }
-    let judged = match judge_version(alloc, rows, posted.name, posted.object) {
-        Ok(judged) => judged,
-        Err(_) => return Err("a fault".into()),
-    };
-    if numbers_of(alloc, &judged)?.as_slice() != posted.wanted {
-        return Err("other numbers".into());
-    }
-    make(alloc, rows, judged, posted.key)
+fn is_wanted(alloc: Global, judged: &Judged, posted: &Posted<'_>) -> Result<bool, AllocError> {
+    let text = said(alloc, judged)?;
+    let package = package_of(judged);
+    Ok(
+        text.as_str() == posted.wanted
+            && package.len() == posted.length
+            && package.starts_with(posted.start),
+    )
 }
 
-fn keeps_the_sender(alloc: Global, rows: &mut MemoryKeeper, object: &[u8]) -> Result<bool, Fail> {
+// Keeps what was judged, where it is what is wanted.
+fn keep_judged(
+    alloc: Global,
+    rows: &mut MemoryKeeper,
+    judged: Judged,
+    posted: &Posted<'_>,
+) -> Result<bool, AllocError>
+    requires { IsSoundly judged }
+{
+    if !is_wanted(alloc, &judged, posted)? {
+        return Ok(false);
+    }
+    let key = key_row(alloc, posted.key)?;
+    Ok(make(rows, judged, key))
+}
+
+// Keeps an object, where it is judged as is wanted.
+fn keep(alloc: Global, rows: &mut MemoryKeeper, posted: &Posted<'_>) -> Result<bool, AllocError> {
+    let object = object_file(alloc, posted.object)?;
+    if 262_144 < object.as_slice().len() {
+        return Ok(false);
+    }
+    match judge_version(alloc, rows, posted.name, object.as_slice()) {
+        Ok(judged) => keep_judged(alloc, rows, judged, posted),
+        Err(_) => Ok(false),
+    }
+}
+
+fn keeps_the_sender(alloc: Global, rows: &mut MemoryKeeper) -> Result<bool, AllocError> {
     let posted = Posted {
         name: "sender",
         key: "1",
-        object,
-        wanted: &[0, 1, 1, 16, 17, 18],
+        object: Object::Sender,
+        wanted: "0 1 1 16 17 18",
+        length: 102,
+        start: &PACKAGE,
     };
-    Ok(keep(alloc, rows, &posted)?.as_slice() == PACKAGE.as_slice())
+    keep(alloc, rows, &posted)
 }
 
-fn keeps_its_next_version(
-    alloc: Global,
-    rows: &mut MemoryKeeper,
-    object: &[u8],
-) -> Result<bool, Fail> {
+fn keeps_its_next_version(alloc: Global, rows: &mut MemoryKeeper) -> Result<bool, AllocError> {
     let posted = Posted {
         name: "sender",
         key: "2",
-        object,
-        wanted: &[0, 1, 2],
+        object: Object::Sender,
+        wanted: "0 1 2",
+        length: 102,
+        start: b"",
     };
-    Ok(keep(alloc, rows, &posted)?.len() == 102)
+    keep(alloc, rows, &posted)
 }
 
-fn keeps_the_radio(alloc: Global, rows: &mut MemoryKeeper, object: &[u8]) -> Result<bool, Fail> {
+fn keeps_the_radio(alloc: Global, rows: &mut MemoryKeeper) -> Result<bool, AllocError> {
     let posted = Posted {
         name: "radio",
         key: "3",
-        object,
-        wanted: &[0, 2, 1],
+        object: Object::Radio,
+        wanted: "0 2 1",
+        length: 40,
+        start: &RADIO_PACKAGE,
     };
-    Ok(keep(alloc, rows, &posted)?.as_slice() == RADIO_PACKAGE.as_slice())
+    keep(alloc, rows, &posted)
 }
 
-fn keeps_all(
-    alloc: Global,
-    rows: &mut MemoryKeeper,
-    sender: &[u8],
-    radio: &[u8],
-) -> Result<[bool; 3], Fail> {
+fn keeps_all(alloc: Global, rows: &mut MemoryKeeper) -> Result<[bool; 3], AllocError> {
     Ok([
-        keeps_the_sender(alloc, rows, sender)?,
-        keeps_its_next_version(alloc, rows, sender)?,
-        keeps_the_radio(alloc, rows, radio)?,
+        keeps_the_sender(alloc, rows)?,
+        keeps_its_next_version(alloc, rows)?,
+        keeps_the_radio(alloc, rows)?,
     ])
 }
 
+fn all_kept(alloc: Global) -> Result<[bool; 3], AllocError> {
+    let mut rows = MemoryKeeper::new(alloc, Vec::new(alloc));
+    keeps_all(alloc, &mut rows)
+}
+
 #[test]
-fn keeps_versions(rt: HostRuntime) -> Result<(), Fail> {
-    let sender = object_file(rt.alloc(), Object::Sender)?;
-    let radio = object_file(rt.alloc(), Object::Radio)?;
-    let mut rows = MemoryKeeper::new(rt.alloc(), Vec::new(rt.alloc()));
-    let kept = keeps_all(rt.alloc(), &mut rows, sender.as_slice(), radio.as_slice())?;
-    assert_eq!(rt; kept, [true; 3]);
-    Ok(())
+fn keeps_versions(rt: HostRuntime) {
+    assert_eq!(rt; all_kept(rt.alloc()), Ok([true; 3]));
 }
