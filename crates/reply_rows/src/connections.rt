@@ -258,7 +258,7 @@ enum Came {
     Other,
 }
 
-fn came(served: Served, written: &[u8], row: Row) -> Came {
+fn what_came(served: Served, written: &[u8], row: Row) -> Came {
     let (_, _, status, reply) = row;
     if served == Served::Done(503) && written == FAILED {
         return Came::Failed;
@@ -277,7 +277,7 @@ fn serve_source(
 ) -> Result<Came, Fail> {
     let mut sink = MemorySink::new(alloc, 400, Vec::new(alloc))?;
     let served = serve_connection(alloc, source, &mut sink, keeper);
-    Ok(came(served, sink.bytes(), row))
+    Ok(what_came(served, sink.bytes(), row))
 }
 
 fn request(alloc: Global, row: Row) -> Result<Vec<u8>, Fail> {
