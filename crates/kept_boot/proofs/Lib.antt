@@ -1,0 +1,3 @@
+pub mod Copies
+pub mod Wear
+pub mod Installing
