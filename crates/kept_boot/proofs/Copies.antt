@@ -10,8 +10,9 @@ use Rattle.kept_definitions.specs.Machine.{Mote}
 use Rattle.kept_laws.specs.Steps.{Keeps}
 use Rattle.kept_laws.proofs.Steps.{writing_keeps}
 use Rattle.kept_laws.proofs.Stands.{standing_steps_stand}
-use Rattle.kept_journal.specs.Steps.{parts, Stands, Step, Takes, Becomes, Pends, stays}
-use Rattle.kept_journal.proofs.Takes.{keeps_same, takes_program, becomes}
+use Rattle.kept_definitions.specs.Headline.{StandsFor}
+use Rattle.kept_journal.specs.Steps.{parts, Stands, Step, Takes, Pends}
+use Rattle.kept_journal.proofs.Takes.{keeps_same, takes_program, takes_end}
 use Rattle.kept_boot.specs.Boots.{copied, program_pages}
 
 abbrev pub staged_of : State → List (List ℕ)
@@ -44,8 +45,8 @@ copied_more s n sizes within = λ i. record s { prog = pages i }
         ∙ ap (λ (l : List (List ℕ)). l ++ drop (n + 1) s.prog) (flip (take_more (staged_of s) n [] (omega (arith, length-staged s sizes))))
 
 -- all of them
-copied_all : (s : State) (n : ℕ) → IsState s → n ≡ 480 → parts (copied_to n s) ≡ copied (parts s)
-copied_all s n sizes all = λ i. record (parts s) { prog = pages i }
+pub copied_all : (s : State) (n : ℕ) → IsState s → n ≡ 480 → copied_to n s ≡ copied s
+copied_all s n sizes all = λ i. record s { prog = pages i }
   where
     pages : take n (staged_of s) ++ drop n s.prog ≡ staged_of s
     pages =
@@ -67,7 +68,15 @@ copies_page n needed old mid new s run told program =
     (λ y holds u stands pends sound. keeps_prog needed n (copied_to n s) y holds (flip stands.mote.standing ∙ pends) sound)
 
 -- a copy that was done
-pub is_copied : (n : ℕ) (old new : View) (s : State) → IsState s → n ≡ 480 → Takes (Step Pends program_pages s) program_pages n old new → new.state ≡ Some (copied_to n s) → Becomes (copied (parts s)) Pends stays s new
-is_copied n old new s sizes all run told =
-    becomes Pends program_pages n stays (copied (parts s)) s (copied_to n s) old new run told (copied_all s n sizes all)
-    (λ u stands pends sound. standing_steps_stand.prog (parts s) u (staged_of s) stands.mote)
+pub is_copied : (n : ℕ) (old new : View) (s : State) → IsState s → n ≡ 480 → Takes (Step Pends program_pages s) program_pages n old new → new.state ≡ Some (copied_to n s)
+    → (t : Mote) → Stands s t → Pends t → Stands (copied s) t
+is_copied n old new s sizes all run told t stands pends =
+    let same = copied_all s n sizes all in
+    subst (λ (x : State). Stands x t) same
+    (record { sound = (step.keeps t stands pends).sound; mote = subst (λ (x : State). StandsFor (parts x) t) (flip same) mote })
+  where
+    step : Step Pends program_pages s (copied_to n s)
+    step = takes_end (Step Pends program_pages s) program_pages n old new (copied_to n s) run told
+
+    mote : StandsFor (parts (copied s)) t
+    mote = standing_steps_stand.prog (parts s) t (staged_of s) stands.mote (flip stands.mote.standing ∙ pends)

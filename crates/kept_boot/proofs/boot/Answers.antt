@@ -1,4 +1,5 @@
 use Rattle.std.proofs.Common.{◌≡◌, Err, ◌∙◌, sym as flip, ap, subst}
+use Rattle.kept_manifests.specs.Slots.{stored_of}
 use Rattle.kept_journal.specs.Steps.{parts}
 use Rattle.kept_journal.specs.Standing.{AnswersFor}
 use Rattle.kept_boot.proofs.Installing.{reads_each, read_first, rests_booted, pends_booted, has_started, answers}
@@ -16,14 +17,16 @@ returns-in-Err-Unformatted-clause-each g c = λ s told. reads_each _ _ s told c.
 
 pub returns-in_default-clause-each : goal.returns-in_default-clause-each
 returns-in_default-clause-each g c = λ s told.
-    read_first _ _ _ s c.read_state.ensures.reads told (flip (c.in-Ok.ensures.answer s told).pending ∙ c.if-standing.true) (c.install.ensures.each s (c.read_state.ensures.reads.state ∙ told))
+    read_first _ _ _ s (stored_of c.in-Ok.standing.current) c.read_state.ensures.reads told (flip (c.in-Ok.ensures.answer s told).pending ∙ c.if-standing.true) (c.in-Ok.ensures.answer s told).current
+    (c.install.ensures.each s (c.read_state.ensures.reads.state ∙ told))
 
 pub returns-in-Ok-install-clause-answer : goal.returns-in-Ok-install-clause-answer
 returns-in-Ok-install-clause-answer g c = λ s told. answers s c.in-Ok.standing (c.in-Ok.ensures.answer s told)
 
 pub returns-in-Ok-install-clause-ok : goal.returns-in-Ok-install-clause-ok
 returns-in-Ok-install-clause-ok g c = λ s told.
-    pends_booted _ s (flip (c.in-Ok.ensures.answer s told).pending ∙ c.if-standing.true) (c.in-Ok-install.ensures.ok s (c.read_state.ensures.reads.state ∙ told))
+    pends_booted _ s (stored_of c.in-Ok.standing.current) (flip (c.in-Ok.ensures.answer s told).pending ∙ c.if-standing.true) (c.in-Ok.ensures.answer s told).current
+    (c.in-Ok-install.ensures.ok s (c.read_state.ensures.reads.state ∙ told))
 
 pub returns-in-Ok-install-clause-started : goal.returns-in-Ok-install-clause-started
 returns-in-Ok-install-clause-started g c = λ s told t stands.
@@ -31,7 +34,8 @@ returns-in-Ok-install-clause-started g c = λ s told t stands.
 
 pub returns-in-Ok-install-clause-each : goal.returns-in-Ok-install-clause-each
 returns-in-Ok-install-clause-each g c = λ s told.
-    read_first _ _ _ s c.read_state.ensures.reads told (flip (c.in-Ok.ensures.answer s told).pending ∙ c.if-standing.true) (c.install.ensures.each s (c.read_state.ensures.reads.state ∙ told))
+    read_first _ _ _ s (stored_of c.in-Ok.standing.current) c.read_state.ensures.reads told (flip (c.in-Ok.ensures.answer s told).pending ∙ c.if-standing.true) (c.in-Ok.ensures.answer s told).current
+    (c.install.ensures.each s (c.read_state.ensures.reads.state ∙ told))
 
 pub returns-else-standing-clause-answer : goal.returns-else-standing-clause-answer
 returns-else-standing-clause-answer g c = λ s told. answers s c.in-Ok.standing (c.in-Ok.ensures.answer s told)

@@ -3,7 +3,7 @@ use Rattle.flash_pages.proofs.Runs.{uses_uses}
 use Rattle.kept_journal.specs.Steps.{parts, Step, Pends}
 use Rattle.kept_journal.proofs.Takes.{takes_none, takes_more}
 use Rattle.kept_boot.specs.Boots.{IsBehind, program_pages}
-use Rattle.kept_boot.proofs.Copies.{copied_to, copied_more, copies_page, is_copied}
+use Rattle.kept_boot.proofs.Copies.{copied_to, copied_more, copies_page, copied_all, is_copied}
 use Rattle.kept_boot.proofs.Wear.{worn_starts, worn_more, behind_still}
 use Rattle.kept_boot.proofs.copy_staged.Goals as goal
 
@@ -41,6 +41,10 @@ loop-page-preserved g c = record {
 
 pub returns-clause-ok : goal.returns-clause-ok
 returns-clause-ok g c = λ s told.
+    c.loop-page.invariant.state s told ∙ ap Some (copied_all s c.loop-page.page ((g.B.Board.view c.args.board.now).sizes s told) (omega arith))
+
+pub returns-clause-stands : goal.returns-clause-stands
+returns-clause-stands g c = λ s told.
     is_copied c.loop-page.page _ _ s ((g.B.Board.view c.args.board.now).sizes s told) (omega arith) (c.loop-page.invariant.each s told) (c.loop-page.invariant.state s told)
 
 pub returns-clause-each : goal.returns-clause-each
