@@ -1,5 +1,6 @@
 -- A session by its turns.
-use Rattle.std.proofs.Common.{◌≡◌, ⊎_elim, inl, inr, ℕ, ◌+◌, ◌≤◌, Bool, true, false, ◌||◌, IsTrue, List, [], ◌∷◌, ◌++◌, length, take, drop, Option, Some, None, refl, sym, ap, ◌∙◌, subst, arith, append_assoc}
+use Rattle.std.proofs.Common.{◌≡◌, ⊎_elim, inl, inr, ℕ, ◌+◌, ◌≤◌, Bool, true, false, ◌||◌, IsTrue}
+use Rattle.std.proofs.Common.{List, [], ◌∷◌, ◌++◌, length, take, drop, Option, Some, None, refl, sym, ap, ◌∙◌, subst, arith, append_assoc}
 use Rattle.std.specs.List.{flat_map}
 use Rattle.std.proofs.lemmas.Bool.{or_parts}
 use Rattle.std.proofs.lemmas.List.Sums.{sum_by-append, sum_by-cons}
@@ -47,7 +48,8 @@ sends_begin piece v = record {
 }
 
 -- a send of what is behind a first part that was sent
-pub sends_on : (piece rest : List ℕ) (at : ℕ) (old mid new : View) → rest ≡ drop at piece → UsesLine (SendsPart piece) old mid → ((s : State) → old.state ≡ Some s → mid.state ≡ Some (with_sent s (take at piece)))
+pub sends_on : (piece rest : List ℕ) (at : ℕ) (old mid new : View) → rest ≡ drop at piece → UsesLine (SendsPart piece) old mid
+    → ((s : State) → old.state ≡ Some s → mid.state ≡ Some (with_sent s (take at piece)))
     → UsesLine (SendsPart rest) mid new → UsesLine (SendsPart piece) old new
 sends_on piece rest at old mid new behind first there second = record {
   untold = λ none. second.untold (first.untold none);
@@ -130,7 +132,8 @@ module _ (s : Mote) (e : State) (l : List ℕ) (frames : List Frame) (z : State)
       by None run =
           let all = session.between.all in
           let was : (x : State) → new.left_since old.moment x → now.left_since old.moment x =
-          λ x left. ⊎_elim (λ before. before) (λ here. subst (now.left_since old.moment) (sym here) (now.present z old.moment session.between.told all.later)) (run.before x old.moment all.later left) in
+          λ x left. ⊎_elim (λ before. before)
+          (λ here. subst (now.left_since old.moment) (sym here) (now.present z old.moment session.between.told all.later)) (run.before x old.moment all.later left) in
           subst (λ (fs : List Frame). AllKept s e (boot_frame ∷ fs) old new) (sym (append-nil frames)) (record {
             later = omega (arith, all.later, run.later);
             kept = λ x sent left. all.kept x sent (was x left);

@@ -12,7 +12,8 @@ use Rattle.kept_sessions.specs.History.{lines_from}
 use Rattle.kept_sessions.specs.Kept.{Leaves}
 use Rattle.kept_sessions.specs.Sessions.{shown, LeftSince, IsBetween}
 
--- how many programs the work of a frame takes at most: MANIFEST, PIECE, LINK, COMMIT, BOOT and ABORT; any other frame takes none
+-- how many programs the work of a frame takes at most: MANIFEST, PIECE, LINK, COMMIT, BOOT and ABORT; any other frame takes none. BOOT programs 480
+-- pages of the image, 39 pages of each of 16 table slots, and 6 gates.
 abbrev pub programs_of : Frame → ℕ
 programs_of f =
     if f.kind == 1 then 10

@@ -1,4 +1,4 @@
-//! Laws on a session's lines and on what it keeps wherever power is cut.
+//! Laws on a session's lines and on what it keeps wherever power is cut, where external flash is in the second layout.
 //!
 //! Each function does nothing: its contract is the law, and `specs/` says it in full. The lemmas in `proofs/` are for the crates above to cite.
 #![tactic(auto)]

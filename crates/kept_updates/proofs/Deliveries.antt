@@ -1,5 +1,6 @@
 -- Packages that are delivered: their release is one, and the update's frames are frames.
-use Rattle.std.proofs.Common.{◌≡◌, ℕ, zero, suc, ◌+◌, ◌*◌, ◌/◌, ◌%◌, ◌<◌, ◌≤◌, Bool, true, false, cond, eqb, List, [], ◌∷◌, ◌++◌, length, take, drop, map, refl, sym, ap, ◌∙◌, subst, arith, length-append}
+use Rattle.std.proofs.Common.{◌≡◌, ℕ, zero, suc, ◌+◌, ◌*◌, ◌/◌, ◌%◌, ◌<◌, ◌≤◌, Bool, true, false, cond, eqb}
+use Rattle.std.proofs.Common.{List, [], ◌∷◌, ◌++◌, length, take, drop, map, refl, sym, ap, ◌∙◌, subst, arith, length-append}
 use Rattle.std.specs.Prelude.{slice_index}
 use Rattle.std.specs.List.{AllByRecursion}
 use Rattle.std.specs.Int.{to_be_bytes, w32}
@@ -15,7 +16,8 @@ use Rattle.component_package.specs.packages.Component.{spelling}
 use Rattle.component_package.specs.packages.Reading.{component_of}
 use Rattle.component_package.specs.packages.Manifest.{Release, IsManifestEntry, IsRelease, AreDistinct, manifest_entry_bytes}
 use Rattle.component_package.specs.mote.Frames.{Frame, IsFrame, Frames, OnlyLastEnds, is_end, stream_of}
-use Rattle.kept_updates.specs.Update.{Delivered, entry_of, release_of_packages, bare_frame, manifest_frame, pages_of, pieces_of, pieces_from, has_version, update_frames, IsDelivered, AreOneVersion, IsUpdate}
+use Rattle.kept_updates.specs.Update.{Delivered, entry_of, release_of_packages, bare_frame, manifest_frame, pages_of, pieces_of, pieces_from}
+use Rattle.kept_updates.specs.Update.{has_version, update_frames, IsDelivered, AreOneVersion, IsUpdate}
 use Rattle.kept_updates.specs.Laws.{AreLine, UpdatesAreFrames, OneTableAgrees}
 use Rattle.component_package.proofs.ManifestLemmas.{length-among, entry_wide}
 use Rattle.component_package.proofs.ReadAgain.{length-spelling}
@@ -42,7 +44,8 @@ sha256_bytes m = words_bytes _ 8
 -- ---- versions
 
 -- where one table has the package of each component and version, two lists of its packages agree
-one_agrees : (table : ℕ → ℕ → List ℕ) (d : Delivered) (os : List Delivered) → d.bytes ≡ table d.component d.version → AllByRecursion (λ o. o.bytes ≡ table o.component o.version) os → AllByRecursion (AreOneVersion d) os
+one_agrees : (table : ℕ → ℕ → List ℕ) (d : Delivered) (os : List Delivered) → d.bytes ≡ table d.component d.version
+    → AllByRecursion (λ o. o.bytes ≡ table o.component o.version) os → AllByRecursion (AreOneVersion d) os
 one_agrees table d [] own all = tt
 one_agrees table d (o ∷ os) own all = ((λ component version. all.0 ∙ (λ i. table (component i) (version i)) ∙ sym own), one_agrees table d os own all.1)
 
@@ -159,7 +162,9 @@ from_count olds k [] delivered = omega arith
 from_count olds k (d ∷ ds) delivered =
     let own : List Frame = pieces_of k 0 (pages_of d.bytes) d.bytes in
     let rest : List Frame = pieces_from olds (k + 1) ds in
-    omega (arith, (delivered_size d delivered.0).1, pieces_count k 0 (pages_of d.bytes) d.bytes, choice_count (has_version olds d) own, from_count olds (k + 1) ds delivered.1, length-append (cond (has_version olds d) [] own) rest)
+    let first = (delivered_size d delivered.0).1 in
+    let others = from_count olds (k + 1) ds delivered.1 in
+    omega (arith, first, pieces_count k 0 (pages_of d.bytes) d.bytes, choice_count (has_version olds d) own, others, length-append (cond (has_version olds d) [] own) rest)
 
 -- ---- END comes last
 
@@ -194,7 +199,8 @@ module _ (have number : ℕ) (olds news : List Delivered) (up : IsUpdate have ol
   front_good = (manifest_good (release_of_packages number news) (good_release have number olds news up), from_good olds 0 news (omega (arith, up.few)) up.delivered)
 
   ends : OnlyLastEnds (front ++ last)
-  ends = only_last front last front_good (bare_is LINK (omega arith), (λ t. absurd (false≢true t)), (bare_is COMMIT (omega arith), (λ t. absurd (false≢true t)), (bare_is END (omega arith), (λ t. refl), tt)))
+  ends = only_last front last front_good
+      (bare_is LINK (omega arith), (λ t. absurd (false≢true t)), (bare_is COMMIT (omega arith), (λ t. absurd (false≢true t)), (bare_is END (omega arith), (λ t. refl), tt)))
 
   frames : Frames (stream_of (front ++ last)) (front ++ last) []
   frames = record { whole = sym (append-nil (stream_of (front ++ last))); each = ends; rest_partial = tt; rest_after_end = λ t. refl }

@@ -18,11 +18,11 @@ use Rattle.kept_updates.specs.Rows.{sender_bytes, radio_bytes, later_radio_bytes
 
 pub first_update : FirstUpdate
 unfolding sha256 digest_bytes hash_after compress rounds schedule first_words link_cause filled_page coming_set formatted_mote
-first_update = record { bytes = refl; count = refl; none = refl; answers = refl; again = refl; again_linked = refl }
+first_update = record { bytes = refl; count = refl; none = refl; answers = refl; again = refl; again_linked = refl; slots = refl; marks = refl }
 
 pub next_updates : NextUpdates
 unfolding sha256 digest_bytes hash_after compress rounds schedule first_words link_cause filled_page coming_set formatted_mote
-next_updates = record { replaced = refl; turned = refl; disagreeing = refl }
+next_updates = record { replaced = refl; slots = refl; marks = refl; overwritten = refl; turned = refl; disagreeing = refl }
 
 -- bytes, by trying each
 bytes_by_test : (b : List ℕ) → list_all (λ x. nat_lt x 256) b ≡ true → AreBytes b

@@ -1,6 +1,6 @@
 -- Updates install: the manifest, the pieces, and what then is linked and committed.
 use Rattle.std.proofs.Common.{◌≡◌, ◌⊎◌, inl, inr, ⊎_elim, ℕ, suc, ◌+◌, ◌<◌, ◌≤◌, ◌&&◌, ◌||◌, Bool, true, false, not, cond, eqb, ltb, List, [], ◌∷◌, ◌++◌, length}
-use Rattle.std.proofs.Common.{take, drop, get_or, map, filter, Option, Some, None, is_some, slice_get, refl, sym, ap, ◌∙◌, subst, arith}
+use Rattle.std.proofs.Common.{drop, get_or, map, filter, Option, Some, None, is_some, slice_get, refl, sym, ap, ◌∙◌, subst, arith}
 use Rattle.std.specs.Prelude.{find, unwrap_or}
 use Rattle.std.specs.List.{zip, AllByRecursion}
 use Rattle.std.specs.Option.{option_map}
@@ -31,7 +31,7 @@ use Rattle.kept_laws.specs.Invariant.{AreSlots, AreEntries, ComesNext, IsMote}
 use Rattle.kept_laws.specs.Laws.{AreAll, IsPackageOf}
 use Rattle.kept_updates.specs.Update.{Delivered, entry_of, release_of_packages, bare_frame, manifest_frame, has_version, pieces_from, pieces_answers, update_frames, update_answers}
 use Rattle.kept_updates.specs.Update.{IsDelivered, IsUpdate, components_in, AreOneVersion, AgreeOnVersions, HasRelease}
-use Rattle.kept_updates.specs.Laws.{AreByteFrames, IsAt, IsUpdated, UpdatesInstall, SetIsTheRelease, ReleasesStay}
+use Rattle.kept_updates.specs.Laws.{AreByteFrames, FramesAreByteFrames, IsAt, IsUpdated, UpdatesInstall, SetIsTheRelease, ReleasesStay}
 use Rattle.component_package.proofs.ManifestLaws.{faultless_manifests_spell}
 use Rattle.component_package.proofs.ReadAgain.{spelling_said}
 use Rattle.kept_laws.proofs.Store.{coming_is_faultless}
@@ -358,6 +358,9 @@ byte_frames : (fs : List Frame) → OnlyLastEnds fs → AreByteFrames fs
 byte_frames [] each = tt
 byte_frames (f ∷ fs) each = (each.0.bytes, byte_frames fs each.2)
 
+pub frames_are_byte_frames : FramesAreByteFrames
+frames_are_byte_frames bytes fs rest are = byte_frames fs are.each
+
 -- 16 slots of some size are 16 at least
 slots_count : (inbox : List (List ℕ)) → AreSlots inbox → 16 ≤ length inbox
 slots_count inbox sizes = ⊎_elim
@@ -454,8 +457,8 @@ module _ (s : Mote) (have number : ℕ) (olds news : List Delivered) (at : IsAt 
 
   is_updated : IsUpdated (mote_from s (update_frames have olds number news)) number news
   is_updated =
-      let frames = (updates_are_frames.line have number olds news up).frames.each in
-      let after : IsMote (mote_from s (update_frames have olds number news)) = run_mote s (update_frames have olds number news) (byte_frames (update_frames have olds number news) frames) at.mote in
+      let fs : List Frame = update_frames have olds number news in
+      let after : IsMote (mote_from s fs) = run_mote s fs (byte_frames fs (updates_are_frames.line have number olds news up).frames.each) at.mote in
       subst (λ (t : Mote). IsMote t → IsUpdated t number news) (sym all_mote) (λ mote. record {
         at = record { mote = mote; has = record { release = new_release; packages = ap (map spelling) set_is ∙ spelled_again news up.delivered } };
         set = set_is;

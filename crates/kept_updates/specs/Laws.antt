@@ -37,6 +37,10 @@ OneTableAgrees = (table : ℕ → ℕ → List ℕ) (olds news : List Delivered)
 abbrev pub AreByteFrames : List Frame → Type 0
 AreByteFrames fs = AllByRecursion (λ f. AreBytes f.payload) fs
 
+-- What is read from the line as frames are such frames.
+abbrev pub FramesAreByteFrames : Type 0
+FramesAreByteFrames = (bytes : List ℕ) (fs : List Frame) (rest : List ℕ) → Frames bytes fs rest → AreByteFrames fs
+
 -- a mote that has the release
 pub record IsAt (s : Mote) (number : ℕ) (ds : List Delivered) : Type 0 where
   pub mote : IsMote s

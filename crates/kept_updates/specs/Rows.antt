@@ -1,8 +1,8 @@
 -- Worked updates. The digests are those that `sha256sum` prints.
-use Rattle.std.specs.Prelude.{◌≡◌, ℕ, List, [], ◌∷◌, ◌++◌, take, drop, length, replicate, reverse}
+use Rattle.std.specs.Prelude.{◌≡◌, ℕ, List, [], ◌∷◌, ◌++◌, Bool, true, false, take, drop, map, length, replicate, reverse}
 use Rattle.component_package.specs.declared.answer.Answer.TheVariants.{Booted, ManifestIs, Piece, Linked, Committed, Missing, NotLinked, Ended}
-use Rattle.component_package.specs.mote.Frames.{stream_of}
-use Rattle.kept_definitions.specs.Machine.{session_mote, answers_from, session_answers}
+use Rattle.component_package.specs.mote.Frames.{Frame, stream_of}
+use Rattle.kept_definitions.specs.Machine.{Mote, mote_from, session_mote, answers_from, session_answers}
 use Rattle.kept_laws.specs.Formatted.{formatted_mote}
 use Rattle.kept_updates.specs.Update.{Delivered, IsUpdate, update_frames, update_answers}
 
@@ -70,6 +70,21 @@ first_update_bytes =
 
 -- ---- rows
 
+-- the slots of the release that boots, and which of its components came in with it
+abbrev pub slots_of : Mote → List ℕ
+slots_of s = map (λ p. p.slot) s.current.release.placed
+
+abbrev pub marks_of : Mote → List Bool
+marks_of s = map (λ p. p.fresh) s.current.release.placed
+
+-- the update to release 2
+abbrev pub second_update : List Frame
+second_update = update_frames 1 both 2 replaced
+
+-- the mote that has release 1
+abbrev pub has_both : Mote
+has_both = session_mote formatted_mote (update_frames 0 [] 1 both)
+
 pub record FirstUpdate : Type 0 where
   -- on the line, in 245 bytes
   pub bytes : stream_of (update_frames 0 [] 1 both) ≡ first_update_bytes
@@ -81,17 +96,26 @@ pub record FirstUpdate : Type 0 where
   pub again : answers_from formatted_mote (take 2 (update_frames 0 [] 1 both) ++ update_frames 0 [] 1 both) ≡ ManifestIs 1 0 ∷ Piece 0 0 ∷ update_answers [] 1 both
   pub again_linked : answers_from formatted_mote (take 4 (update_frames 0 [] 1 both) ++ update_frames 0 [] 1 both)
       ≡ ManifestIs 1 0 ∷ Piece 0 0 ∷ Piece 1 0 ∷ Linked 1 ∷ update_answers [] 1 both
+  -- both came in, by slots 0 and 1
+  pub slots : slots_of (mote_from formatted_mote (update_frames 0 [] 1 both)) ≡ 0 ∷ 1 ∷ []
+  pub marks : marks_of (mote_from formatted_mote (update_frames 0 [] 1 both)) ≡ true ∷ true ∷ []
 
 -- over the mote that has release 1
 pub record NextUpdates : Type 0 where
   -- two pieces of the component that is new, and none of the one that is held
-  pub replaced : session_answers (session_mote formatted_mote (update_frames 0 [] 1 both)) (update_frames 1 both 2 replaced)
+  pub replaced : session_answers has_both second_update
+      ≡ Booted 1 ∷ ManifestIs 2 1 ∷ Piece 0 0 ∷ Piece 0 1 ∷ Linked 2 ∷ Committed 2 ∷ Ended ∷ []
+  -- what is held keeps slot 0, and the new one comes in by slot 1, which no held component has
+  pub slots : slots_of (session_mote has_both second_update) ≡ 1 ∷ 0 ∷ []
+  pub marks : marks_of (session_mote has_both second_update) ≡ true ∷ false ∷ []
+  -- the same where the inbox was overwritten meanwhile: what is held isn't looked for there
+  pub overwritten : session_answers (record has_both { inbox = replicate 16 (replicate 9984 255) }) second_update
       ≡ Booted 1 ∷ ManifestIs 2 1 ∷ Piece 0 0 ∷ Piece 0 1 ∷ Linked 2 ∷ Committed 2 ∷ Ended ∷ []
   -- the same components in another order: no piece
-  pub turned : session_answers (session_mote formatted_mote (update_frames 0 [] 1 both)) (update_frames 1 both 2 (reverse both))
+  pub turned : session_answers has_both (update_frames 1 both 2 (reverse both))
       ≡ Booted 1 ∷ ManifestIs 2 2 ∷ Linked 2 ∷ Committed 2 ∷ Ended ∷ []
   -- why one version has to be one package: the other package isn't sent, and the mote, to which it is another entry, hasn't it
-  pub disagreeing : session_answers (session_mote formatted_mote (update_frames 0 [] 1 both)) (update_frames 1 both 2 disagreeing)
+  pub disagreeing : session_answers has_both (update_frames 1 both 2 disagreeing)
       ≡ Booted 1 ∷ ManifestIs 2 1 ∷ Missing 1 ∷ NotLinked ∷ Ended ∷ []
 
 -- the conditions on an update can be met
