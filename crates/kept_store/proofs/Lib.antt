@@ -5,3 +5,4 @@ pub mod OpenLemmas
 pub mod ComingLemmas
 pub mod RecordLemmas
 pub mod FieldLemmas
+pub mod PartLemmas

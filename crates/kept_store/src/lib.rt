@@ -7,6 +7,7 @@
 mod current;
 mod fields;
 mod open;
+mod parts;
 mod places;
 mod records;
 mod set;
@@ -14,6 +15,7 @@ mod slots;
 
 pub use current::open_current;
 pub use open::open_set;
+pub use parts::part_bytes;
 pub use records::{export_at, read_reloc, reloc_at};
 pub use set::StoredSet;
 pub use slots::{is_held, slot_for};
