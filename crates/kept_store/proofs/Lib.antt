@@ -6,3 +6,4 @@ pub mod ComingLemmas
 pub mod RecordLemmas
 pub mod FieldLemmas
 pub mod PartLemmas
+pub mod RunLemmas
