@@ -7,3 +7,5 @@ pub mod RecordLemmas
 pub mod FieldLemmas
 pub mod PartLemmas
 pub mod RunLemmas
+pub mod TableLemmas
+pub mod TableRuns

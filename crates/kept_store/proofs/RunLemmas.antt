@@ -123,7 +123,7 @@ table_there s sizes set k c is rooms lt own from n within =
     let low : slot < 16 = slot_low set.slots k is.manifest lt in
     let fits = fits_slot set k is rooms lt in
     let goal : Bool → Type 0 = λ f. take n (drop from (take 32 (bytes_from (cond f (786 + 39 * slot) (1410 + 39 * slot)) s) ++ drop (cond f (exports_at h) 32) (bytes_from (cond f (786 + 39 * slot) (1410 + 39 * slot)) s)))
-      ≡ slice_range (run_of c) from (from + n) in
+    ≡ slice_range (run_of c) from (from + n) in
     elim (cases_Bool (is_fresh set k)) [
       | inl fresh ↦
           let b = own.readable.came fresh in
