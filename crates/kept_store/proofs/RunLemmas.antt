@@ -1,8 +1,8 @@
 -- A run in two pieces of a slot.
-use Rattle.std.proofs.Common.{◌≡◌, inl, inr, ℕ, ◌+◌, ◌-◌, ◌*◌, ◌<◌, ◌≤◌, Bool, true, false, cond, All, List, [], ◌++◌, length, take, drop, get_or, min, refl, sym, ap, ap₂, subst, ◌∙◌, arith, slice_range, length-append, append_assoc}
+use Rattle.std.proofs.Common.{◌≡◌, inl, inr, ℕ, ◌+◌, ◌-◌, ◌*◌, ◌<◌, ◌≤◌, Bool, cond, List, [], ◌++◌, length, take, drop, get_or, min, sym, ap, ap₂, subst, ◌∙◌, arith, slice_range, append_assoc}
 use Rattle.std.specs.List.{flat_map}
 use Rattle.std.proofs.lemmas.Bool.{cases_Bool, cases_lt}
-use Rattle.std.proofs.lemmas.List.{take_all, drop_all, take_at, take-take, drop-take, drop-drop, length-drop, length-take-le, drop-append-le, take-append-le, take-append-drop, append-nil}
+use Rattle.std.proofs.lemmas.List.{drop_all, take_at, take-take, drop-take, drop-drop, length-drop, length-take-le, drop-append-le, take-append-le, take-append-drop, append-nil}
 use Rattle.std.proofs.Math.Seq.{take-append-add, drop-append-add}
 use Rattle.std.proofs.lemmas.List.Elements.{All-drop}
 use Rattle.flash_pages.specs.State.{State, IsState}
@@ -12,7 +12,7 @@ use Rattle.component_package.specs.packages.Component.{Component, header_bytes, 
 use Rattle.component_package.specs.packages.Reading.{header_of, header_of_component, exports_at, total_of}
 use Rattle.component_package.proofs.StoredLemmas.{length-joined}
 use Rattle.kept_definitions.specs.Runs.{run_of, run_length, run_in_package}
-use Rattle.kept_definitions.specs.Kept.{inbox_of, tables_of}
+use Rattle.kept_definitions.specs.Kept.{inbox_of}
 use Rattle.kept_laws.proofs.Reading.{header_here, run_packed}
 use Rattle.kept_store.specs.declared.set.StoredSet.{StoredSet}
 use Rattle.kept_store.specs.Sets.{IsSet, IsComponentOf, header_at, is_fresh}
@@ -122,7 +122,8 @@ table_there s sizes set k c is rooms lt own from n within =
     let slot : ℕ = get_or set.slots.slots k 0 in
     let low : slot < 16 = slot_low set.slots k is.manifest lt in
     let fits = fits_slot set k is rooms lt in
-    let goal : Bool → Type 0 = λ f. take n (drop from (take 32 (bytes_from (cond f (786 + 39 * slot) (1410 + 39 * slot)) s) ++ drop (cond f (exports_at h) 32) (bytes_from (cond f (786 + 39 * slot) (1410 + 39 * slot)) s)))
+    let goal : Bool → Type 0 = λ f. take n (drop from (take 32 (bytes_from (cond f (786 + 39 * slot) (1410 + 39 * slot)) s)
+    ++ drop (cond f (exports_at h) 32) (bytes_from (cond f (786 + 39 * slot) (1410 + 39 * slot)) s)))
     ≡ slice_range (run_of c) from (from + n) in
     elim (cases_Bool (is_fresh set k)) [
       | inl fresh ↦

@@ -1,10 +1,12 @@
 -- Runs that are written into table slots.
-use Rattle.std.proofs.Common.{◌≡◌, inl, inr, ℕ, zero, suc, ◌+◌, ◌-◌, ◌*◌, ◌/◌, ◌<◌, ◌≤◌, Bool, true, false, cond, All, List, [], ◌∷◌, ◌++◌, length, take, drop, get_or, set, replicate, min, refl, sym, ap, ap₂, subst, ◌∙◌, arith, add-one, length-append, append_assoc, Some}
+use Rattle.std.proofs.Common.{◌≡◌, inl, inr, ℕ, zero, suc, ◌+◌, ◌-◌, ◌*◌, ◌<◌, ◌≤◌, Bool, true, cond, List, [], ◌∷◌, ◌++◌, length, take, drop, get_or, set, replicate, min, refl, sym, ap}
+use Rattle.std.proofs.Common.{ap₂, subst, ◌∙◌, arith, length-append, append_assoc, Some}
 use Rattle.std.specs.Prelude.{nat_le}
-use Rattle.std.specs.List.{concat, range_with_len}
+use Rattle.std.specs.List.{concat}
 use Rattle.std.proofs.lemmas.Bool.{cases_Bool, cases_lt, le-leb, leb-true}
 use Rattle.std.proofs.lemmas.Bool.Decides.{nat_tests}
-use Rattle.std.proofs.lemmas.List.{take_all, take_at, drop_at, take_more, drop_more, set_at, length-take-le, length-take, length-drop, take-append-le, take-append-drop, get_or-append_right, get_or-drop, set-set, set-get_or, get_or-set_same, append-nil}
+use Rattle.std.proofs.lemmas.List.{take_all, drop_at, take_more, drop_more, set_at, length-take-le, length-take, length-drop, take-append-drop, get_or-append_right, get_or-drop, set-set}
+use Rattle.std.proofs.lemmas.List.{set-get_or, get_or-set_same, append-nil}
 use Rattle.std.proofs.lemmas.List.Folds.{concat-append}
 use Rattle.std.proofs.lemmas.List.FromFn.{get_or-map-range_with_len, length-map-range_with_len}
 use Rattle.std.proofs.lemmas.List.Elements.{All-take, All-drop}
@@ -17,10 +19,10 @@ use Rattle.component_package.specs.packages.Reading.{header_of, total_of, export
 use Rattle.component_package.proofs.Lists.{length-list_of, list_of_more}
 use Rattle.component_package.proofs.StoredLemmas.{length-joined, take_further}
 use Rattle.kept_definitions.specs.Runs.{run_length, run_in_package}
-use Rattle.kept_definitions.specs.Kept.{slot_from, inbox_of, tables_of}
+use Rattle.kept_definitions.specs.Kept.{slot_from, tables_of}
 use Rattle.kept_definitions.specs.Sides.{Parts, parts_of}
 use Rattle.kept_laws.proofs.Programs.{each_page_is_in_one_part}
-use Rattle.kept_store.specs.Tables.{table_first, table_pages, inbox_slot, FitsSlot, run_page, pages_for, run_pages, with_pages, with_run, KeepsRun, OnlyTable, IsDue, run_page_count, IsAnother}
+use Rattle.kept_store.specs.Tables.{table_first, table_pages, inbox_slot, FitsSlot, run_page, pages_for, run_pages, with_pages, with_run, KeepsRun, OnlyTable, run_page_count}
 use Rattle.kept_store.proofs.SlotBytes.{inbox_is, table_is}
 
 -- ---- how long runs are
@@ -144,7 +146,8 @@ wrote_more n slot s is low lt few = λ i. record s { ext = pages i }
         let front : List (List ℕ) = take first s.ext in
         let runs : List (List ℕ) = run_pages slot s in
         let page : List ℕ = get_or runs n [] in
-        let long : length (front ++ take n runs) ≡ first + n = length-append front (take n runs) ∙ omega (arith, length-take-le first s.ext (omega (arith, is.ext)), length-take-le n runs (omega (arith, lt))) in
+        let long : length (front ++ take n runs) ≡ first + n =
+        length-append front (take n runs) ∙ omega (arith, length-take-le first s.ext (omega (arith, is.ext)), length-take-le n runs (omega (arith, lt))) in
         let next : first + n + 1 ≡ first + (n + 1) = omega arith in
         ap (λ (l : List (List ℕ)). set ((front ++ take n runs) ++ l) (first + n) page) (drop_more s.ext (first + n) [] (omega (arith, is.ext)))
         ∙ set_at (front ++ take n runs) (get_or s.ext (first + n) []) (drop (first + n + 1) s.ext) page (first + n) long
@@ -160,9 +163,12 @@ pub page_still : (n slot : ℕ) (s : State) → IsState s → slot < 16 → n �
 page_still n slot s is low le =
     let first : ℕ = table_first slot in
     let front : List (List ℕ) = take first s.ext ++ take n (run_pages slot s) in
-    let long : length front ≡ first + n = length-append (take first s.ext) (take n (run_pages slot s)) ∙ omega (arith, length-take-le first s.ext (omega (arith, is.ext)), length-take-le n (run_pages slot s) (omega (arith, le))) in
+    let long : length front ≡ first + n =
+    length-append (take first s.ext) (take n (run_pages slot s))
+    ∙ omega (arith, length-take-le first s.ext (omega (arith, is.ext)), length-take-le n (run_pages slot s) (omega (arith, le))) in
     let same : first + n + (first + n - (first + n)) ≡ first + n = omega arith in
-    get_or-append_right front (drop (first + n) s.ext) (first + n) (first + n) [] long (omega arith) ∙ get_or-drop (first + n) s.ext (first + n - (first + n)) [] ∙ ap (λ (k : ℕ). get_or s.ext k []) same
+    get_or-append_right front (drop (first + n) s.ext) (first + n) (first + n) [] long (omega arith) ∙ get_or-drop (first + n) s.ext (first + n - (first + n)) []
+    ∙ ap (λ (k : ℕ). get_or s.ext k []) same
 
 -- ---- what may be left
 
@@ -187,11 +193,13 @@ only_more needed slot j s t y low few only (inr spoilt) =
     let new : List ℕ = concat (set (take 39 (drop (1410 + 39 * slot) t.ext)) j bytes) in
     let old : List (List ℕ) = tables_of s.ext in
     let before : tables_of t.ext ≡ set old slot only.bytes = ap (λ (p : Parts). p.tables) only.parts_are in
-    let there : parts_of t.prog (set t.ext (1410 + 39 * slot + j) bytes) ≡ record (parts_of t.prog t.ext) { tables = set (tables_of t.ext) slot new } = each_page_is_in_one_part.table t.prog t.ext slot j bytes low few in
+    let there : parts_of t.prog (set t.ext (1410 + 39 * slot + j) bytes) ≡ record (parts_of t.prog t.ext) { tables = set (tables_of t.ext) slot new } =
+    each_page_is_in_one_part.table t.prog t.ext slot j bytes low few in
     let now : set (tables_of t.ext) slot new ≡ set old slot new = ap (λ (l : List (List ℕ)). set l slot new) before ∙ set-set old slot only.bytes new in
     let parts : parts_of t.prog (set t.ext (1410 + 39 * slot + j) bytes) ≡ record (parts_of s.prog s.ext) { tables = set old slot new } =
     there ∙ ap₂ (λ (p : Parts) (l : List (List ℕ)). record p { tables = l }) only.parts_are now in
-    let programmed = only_programs (table_pages slot) needed page s t (with_page t page bytes) only.pages (in_slot slot j few) (inr (spoilt.0, record { bytes = bytes; whole = spoilt.1.whole; is = refl })) in
+    let programmed =
+    only_programs (table_pages slot) needed page s t (with_page t page bytes) only.pages (in_slot slot j few) (inr (spoilt.0, record { bytes = bytes; whole = spoilt.1.whole; is = refl })) in
     subst (OnlyTable slot s) (sym spoilt.1.is) (record {
       pages = programmed;
       prog = only.prog;

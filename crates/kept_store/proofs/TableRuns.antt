@@ -1,8 +1,8 @@
 -- What the loop over the pages of a run has done.
-use Rattle.std.proofs.Common.{◌≡◌, ◌≢◌, inl, inr, ⊎_elim, ℕ, ◌+◌, ◌<◌, ◌≤◌, List, [], length, get_or, Option, Some, true, refl, sym, ap, subst, ◌∙◌, arith}
+use Rattle.std.proofs.Common.{◌≡◌, inl, inr, ⊎_elim, ℕ, ◌+◌, ◌<◌, ◌≤◌, List, length, Option, Some, refl, sym, ap, subst, ◌∙◌, arith}
 use Rattle.std.specs.Prelude.{IsTrue}
 use Rattle.std.proofs.lemmas.Option.{same_Some}
-use Rattle.flash_pages.specs.State.{State, IsState, Place, Ext, MayHold, page_at, with_page}
+use Rattle.flash_pages.specs.State.{State, IsState, Place, Ext, MayHold, with_page}
 use Rattle.flash_pages.specs.Board.{View, Told, Reads, Programs, WearsOnce}
 use Rattle.flash_pages.specs.Moments.{LeavesOnly}
 use Rattle.flash_pages.proofs.Runs.{starts, reads, programs, weaker, at_end, uses_uses}
@@ -10,8 +10,8 @@ use Rattle.flash_pages.proofs.Wear.{WearsSoFar, wear_starts, wear_reads, so_far_
 use Rattle.component_package.specs.declared.part.Header.{Header}
 use Rattle.component_package.specs.packages.Reading.{header_of}
 use Rattle.kept_definitions.specs.Runs.{run_in_package}
-use Rattle.kept_store.specs.Tables.{table_first, table_pages, inbox_slot, FitsSlot, run_page, run_pages, OnlyTable, IsDue, IsAnother}
-use Rattle.kept_store.proofs.TableLemmas.{few_pages, page_here, wrote, wrote_more, page_still, only_none, only_more, in_slot, inbox_stays}
+use Rattle.kept_store.specs.Tables.{table_first, table_pages, inbox_slot, FitsSlot, run_page, run_pages, OnlyTable, IsDue, run_page_count, IsAnother}
+use Rattle.kept_store.proofs.TableLemmas.{few_pages, page_here, page_within, wrote, wrote_more, page_still, only_none, only_more, in_slot, inbox_stays}
 
 -- the first n pages of the run were written where they differed, and no other page
 pub record Fills (slot n : ℕ) (s : State) (old new : View) : Type 0 where
@@ -45,7 +45,7 @@ due_here slot n h s is low fits header lt only another =
     }
 
 -- one page more
-pub fills_more : (slot n : ℕ) (h : Header) (s : State) (old mid new : View) → slot < 16 → FitsSlot slot s → h ≡ header_of (inbox_slot slot s) → n < length (run_pages slot s) → old.state ≡ Some s
+fills_more : (slot n : ℕ) (h : Header) (s : State) (old mid new : View) → slot < 16 → FitsSlot slot s → h ≡ header_of (inbox_slot slot s) → n < length (run_pages slot s) → old.state ≡ Some s
     → Fills slot n s old mid → mid.state ≡ Some (wrote n slot s) → Programs (IsAnother slot h n) (Ext (table_first slot + n)) mid new → Fills slot (n + 1) s old new
 fills_more slot n h s old mid new low fits header lt told fills now program =
     let is = old.sizes s told in
@@ -61,19 +61,27 @@ fills_more slot n h s old mid new low fits header lt told fills now program =
       ));
     }
 
+-- the same, where the header says that there is one
+pub fills_next : (slot n : ℕ) (h : Header) (s : State) (old mid new : View) → slot < 16 → h ≡ header_of (inbox_slot slot s) → n < run_page_count h → old.state ≡ Some s
+    → Fills slot n s old mid → mid.state ≡ Some (wrote n slot s) → Programs (IsAnother slot h n) (Ext (table_first slot + n)) mid new → Fills slot (n + 1) s old new
+fills_next slot n h s old mid new low header count told fills now program =
+    let within = page_within n slot h s (old.sizes s told) low header count in
+    fills_more slot n h s old mid new low within.0 header within.1 told fills now program
+
 -- and so is the state
-pub page_written : (slot n : ℕ) (h : Header) (s : State) (now : Option State) → IsState s → slot < 16 → FitsSlot slot s → n < length (run_pages slot s) → h ≡ header_of (inbox_slot slot s)
+pub page_written : (slot n : ℕ) (h : Header) (s : State) (now : Option State) → IsState s → slot < 16 → h ≡ header_of (inbox_slot slot s) → n < run_page_count h
     → OnlyTable slot s (wrote n slot s)
     → (h ≡ header_of (inbox_slot slot (wrote n slot s))
     → now ≡ Some (with_page (wrote n slot s) (Ext (table_first slot + n)) (run_page (run_in_package (inbox_slot slot (wrote n slot s))) n)))
     → now ≡ Some (wrote (n + 1) slot s)
-page_written slot n h s now is low fits lt header only ok =
+page_written slot n h s now is low header count only ok =
+    let within = page_within n slot h s is low header count in
     let stays = inbox_stays slot s (wrote n slot s) only in
-    let few : n < 39 = omega (arith, lt, few_pages s is slot low fits) in
+    let few : n < 39 = omega (arith, within.1, few_pages s is slot low within.0) in
     ok (header ∙ sym (ap header_of stays))
     ∙ ap (λ (b : List ℕ). Some (with_page (wrote n slot s) (Ext (table_first slot + n)) (run_page (run_in_package b) n))) stays
-    ∙ ap (λ (b : List ℕ). Some (with_page (wrote n slot s) (Ext (table_first slot + n)) b)) (sym (page_here slot n s lt))
-    ∙ ap Some (wrote_more n slot s is low lt few)
+    ∙ ap (λ (b : List ℕ). Some (with_page (wrote n slot s) (Ext (table_first slot + n)) b)) (sym (page_here slot n s within.1))
+    ∙ ap Some (wrote_more n slot s is low within.1 few)
 
 -- what is said of the whole
 
@@ -98,7 +106,8 @@ wears slot n old new low fills = record {
 -- ---- one page
 
 -- a read, and then a program that is needed where the read says so
-pub read_then : (known needed : State → Type 0) (place : Place) (old mid new : View) → Reads old mid → Told old (λ s. known s → needed s) → Programs known place mid new → Programs needed place old new
+pub read_then : (known needed : State → Type 0) (place : Place) (old mid new : View) → Reads old mid → Told old (λ s. known s → needed s)
+    → Programs known place mid new → Programs needed place old new
 read_then known needed place old mid new read implies after = record {
   state = λ s told. let to = after.state s (read.state ∙ told) in (to.0, to.1, holds s to.0 told to.2);
   cut = record {

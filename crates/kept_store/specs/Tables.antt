@@ -1,5 +1,6 @@
 -- Table slots that are filled with the runs of packages in the inbox.
-use Rattle.std.specs.Prelude.{◌≡◌, ◌≢◌, ◌<◌, ◌+◌, ◌-◌, ◌*◌, ◌/◌, ◌≤◌, ◌&&◌, ◌++◌, nat_le, nat_lt, ℕ, Bool, true, false, List, [], length, take, drop, replicate, slice_index_or, slice_set, Some, if◌then◌else◌}
+use Rattle.std.specs.Prelude.{◌≡◌, ◌≢◌, ◌<◌, ◌+◌, ◌-◌, ◌*◌, ◌/◌, ◌≤◌, ◌&&◌, ◌++◌, nat_le, nat_lt, ℕ, Bool, false, List, [], length, take, drop, replicate, slice_index_or, slice_set, Some}
+use Rattle.std.specs.Prelude.{if◌then◌else◌}
 use Rattle.flash_pages.specs.State.{State, Place, Prog, Ext, IsState, OnlyPages, page_at}
 use Rattle.flash_pages.specs.Board.{View}
 use Rattle.component_package.specs.declared.areas.TheConstants.{SLOT_PAGES}

@@ -1,4 +1,4 @@
-use Rattle.std.proofs.Common.{◌≡◌, ℕ, ◌++◌, length, take, drop, ap₂, ◌∙◌}
+use Rattle.std.proofs.Common.{ℕ, ◌++◌, length, take, drop, ap₂, ◌∙◌}
 use Rattle.external_flash.specs.Areas.{bytes_from}
 use Rattle.kept_store.proofs.RunLemmas.{table_there}
 use Rattle.kept_store.proofs.runs.table_bytes.Goals as goal

@@ -1,8 +1,8 @@
-use Rattle.std.proofs.Common.{◌≡◌, ℕ, ◌+◌, ◌<◌, ◌≤◌, Some, refl, sym, ap, subst, ◌∙◌, arith}
+use Rattle.std.proofs.Common.{◌≡◌, ℕ, ◌+◌, ◌<◌, Some, sym, ap, subst, ◌∙◌, arith}
 use Rattle.flash_pages.proofs.Runs.{uses_uses}
 use Rattle.kept_store.specs.Tables.{OnlyTable, run_page_count}
-use Rattle.kept_store.proofs.TableLemmas.{wrote, wrote_none, wrote_run, fits_run, page_within, keeps}
-use Rattle.kept_store.proofs.TableRuns.{fills_none, fills_more, only_wrote, page_written, leaves_all, dues, wears}
+use Rattle.kept_store.proofs.TableLemmas.{wrote, wrote_none, wrote_run, fits_run, keeps}
+use Rattle.kept_store.proofs.TableRuns.{fills_none, fills_next, only_wrote, page_written, leaves_all, dues, wears}
 use Rattle.kept_store.proofs.tables.keep_run.Goals as goal
 
 pub returns-in_err-h-clause-each : goal.returns-in_err-h-clause-each
@@ -18,47 +18,38 @@ loop-page-init g c = record {
 
 pub returns-in_err-keep_page-clause-each : goal.returns-in_err-keep_page-clause-each
 returns-in_err-keep_page-clause-each g c = λ s told.
-    let sizes = (g.B.Board.view c.args.board.now).sizes s told in
-    let header = c.in_ok-h.ensures.answer s told in
     let count : c.loop-page.page < run_page_count c.in_ok-h.h = omega (arith, c.run_page_count-count.ensures.count, c.loop-page-test.true) in
-    let within = page_within c.loop-page.page c.args.slot c.in_ok-h.h s sizes c.requires header count in
     leaves_all c.args.slot (c.loop-page.page + 1) s _ _ (omega (arith, c.run_page_count-count.ensures.low, c.loop-page-test.true))
-    (fills_more c.args.slot c.loop-page.page c.in_ok-h.h s _ _ _ c.requires within.0 header within.1 told (c.loop-page.invariant.fills s told) (c.loop-page.invariant.state s told) c.keep_page.ensures.programs)
+    (fills_next c.args.slot c.loop-page.page c.in_ok-h.h s _ _ _ c.requires (c.in_ok-h.ensures.answer s told) count told
+    (c.loop-page.invariant.fills s told) (c.loop-page.invariant.state s told) c.keep_page.ensures.programs)
 
 pub returns-in_err-keep_page-clause-wear : goal.returns-in_err-keep_page-clause-wear
-returns-in_err-keep_page-clause-wear g c = wears c.args.slot (c.loop-page.page + 1) _ _ c.requires (λ s told.
-    let sizes = (g.B.Board.view c.args.board.now).sizes s told in
-    let header = c.in_ok-h.ensures.answer s told in
+returns-in_err-keep_page-clause-wear g c =
     let count : c.loop-page.page < run_page_count c.in_ok-h.h = omega (arith, c.run_page_count-count.ensures.count, c.loop-page-test.true) in
-    let within = page_within c.loop-page.page c.args.slot c.in_ok-h.h s sizes c.requires header count in
-    fills_more c.args.slot c.loop-page.page c.in_ok-h.h s _ _ _ c.requires within.0 header within.1 told (c.loop-page.invariant.fills s told) (c.loop-page.invariant.state s told) c.keep_page.ensures.programs)
+    wears c.args.slot (c.loop-page.page + 1) _ _ c.requires (λ s told.
+    fills_next c.args.slot c.loop-page.page c.in_ok-h.h s _ _ _ c.requires (c.in_ok-h.ensures.answer s told) count told
+    (c.loop-page.invariant.fills s told) (c.loop-page.invariant.state s told) c.keep_page.ensures.programs)
 
 pub returns-in_err-keep_page-clause-due : goal.returns-in_err-keep_page-clause-due
-returns-in_err-keep_page-clause-due g c = dues c.args.slot (c.loop-page.page + 1) _ _ (λ s told.
-    let sizes = (g.B.Board.view c.args.board.now).sizes s told in
-    let header = c.in_ok-h.ensures.answer s told in
+returns-in_err-keep_page-clause-due g c =
     let count : c.loop-page.page < run_page_count c.in_ok-h.h = omega (arith, c.run_page_count-count.ensures.count, c.loop-page-test.true) in
-    let within = page_within c.loop-page.page c.args.slot c.in_ok-h.h s sizes c.requires header count in
-    fills_more c.args.slot c.loop-page.page c.in_ok-h.h s _ _ _ c.requires within.0 header within.1 told (c.loop-page.invariant.fills s told) (c.loop-page.invariant.state s told) c.keep_page.ensures.programs)
+    dues c.args.slot (c.loop-page.page + 1) _ _ (λ s told.
+    fills_next c.args.slot c.loop-page.page c.in_ok-h.h s _ _ _ c.requires (c.in_ok-h.ensures.answer s told) count told
+    (c.loop-page.invariant.fills s told) (c.loop-page.invariant.state s told) c.keep_page.ensures.programs)
 
 pub loop-page-preserved : goal.loop-page-preserved
 loop-page-preserved g c = record {
   state = λ s told.
       let sizes = (g.B.Board.view c.args.board.now).sizes s told in
-      let slot : ℕ = c.args.slot in
-      let n : ℕ = c.loop-page.page in
-      let header = c.in_ok-h.ensures.answer s told in
-      let count : n < run_page_count c.in_ok-h.h = omega (arith, c.run_page_count-count.ensures.count, c.loop-page-test.true) in
-      let within = page_within n slot c.in_ok-h.h s sizes c.requires header count in
-      let now = c.loop-page.invariant.state s told in
-      let only = only_wrote slot n s _ _ (c.loop-page.invariant.fills s told) now in
-      page_written slot n c.in_ok-h.h s _ sizes c.requires within.0 within.1 header only (c.in_ok-keep_page.ensures.ok (wrote n slot s) now);
-  fills = λ s told.
-      let sizes = (g.B.Board.view c.args.board.now).sizes s told in
-      let header = c.in_ok-h.ensures.answer s told in
       let count : c.loop-page.page < run_page_count c.in_ok-h.h = omega (arith, c.run_page_count-count.ensures.count, c.loop-page-test.true) in
-      let within = page_within c.loop-page.page c.args.slot c.in_ok-h.h s sizes c.requires header count in
-      fills_more c.args.slot c.loop-page.page c.in_ok-h.h s _ _ _ c.requires within.0 header within.1 told (c.loop-page.invariant.fills s told) (c.loop-page.invariant.state s told) c.keep_page.ensures.programs;
+      let now = c.loop-page.invariant.state s told in
+      let only = only_wrote c.args.slot c.loop-page.page s _ _ (c.loop-page.invariant.fills s told) now in
+      page_written c.args.slot c.loop-page.page c.in_ok-h.h s _ sizes c.requires (c.in_ok-h.ensures.answer s told) count only
+      (c.in_ok-keep_page.ensures.ok (wrote c.loop-page.page c.args.slot s) now);
+  fills = λ s told.
+      let count : c.loop-page.page < run_page_count c.in_ok-h.h = omega (arith, c.run_page_count-count.ensures.count, c.loop-page-test.true) in
+      fills_next c.args.slot c.loop-page.page c.in_ok-h.h s _ _ _ c.requires (c.in_ok-h.ensures.answer s told) count told
+      (c.loop-page.invariant.fills s told) (c.loop-page.invariant.state s told) c.keep_page.ensures.programs;
   uses = uses_uses _ _ _ c.loop-page.invariant.uses c.keep_page.ensures.programs.uses;
   fault = c.in_ok-keep_page.ensures.faults ∙ c.loop-page.invariant.fault;
 }

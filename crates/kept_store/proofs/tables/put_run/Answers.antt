@@ -2,9 +2,9 @@ use Rattle.std.proofs.Common.{◌≡◌, ℕ, ◌+◌, ◌-◌, ◌*◌, ◌≤�
 use Rattle.std.proofs.lemmas.List.{length-take-le}
 use Rattle.external_flash.specs.Areas.{bytes_from}
 use Rattle.component_package.specs.declared.part.Header.{Header}
-use Rattle.component_package.specs.packages.Reading.{header_of, total_of}
+use Rattle.component_package.specs.packages.Reading.{total_of}
 use Rattle.kept_definitions.specs.Runs.{run_length, run_in_package}
-use Rattle.kept_store.specs.Tables.{inbox_slot, FitsSlot, run_page}
+use Rattle.kept_store.specs.Tables.{inbox_slot, FitsSlot}
 use Rattle.kept_store.proofs.RunLemmas.{packed_there}
 use Rattle.kept_store.proofs.TableLemmas.{length-here, page_filled}
 use Rattle.kept_store.proofs.tables.put_run.Goals as goal
