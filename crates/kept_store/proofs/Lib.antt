@@ -9,3 +9,4 @@ pub mod PartLemmas
 pub mod RunLemmas
 pub mod TableLemmas
 pub mod TableRuns
+pub mod GoingLemmas

@@ -31,7 +31,7 @@ abbrev run_here : ℕ → State → List ℕ
 run_here slot s = run_in_package (inbox_slot slot s)
 
 -- an inbox slot has 39 pages
-length-inbox : (s : State) → IsState s → (slot : ℕ) → slot < 16 → length (inbox_slot slot s) ≡ 9984
+pub length-inbox : (s : State) → IsState s → (slot : ℕ) → slot < 16 → length (inbox_slot slot s) ≡ 9984
 length-inbox s is slot low =
     let behind : List (List ℕ) = drop (786 + 39 * slot) s.ext in
     let pages : List (List ℕ) = take 39 behind in
@@ -214,7 +214,7 @@ inbox_stays slot s t only = ap (λ (p : Parts). get_or p.inbox slot []) only.par
 
 -- ---- the end
 
-length-tables : (ext : List (List ℕ)) → length (tables_of ext) ≡ 16
+pub length-tables : (ext : List (List ℕ)) → length (tables_of ext) ≡ 16
 unfolding tables_of
 length-tables ext = length-map-range_with_len (slot_from 1410 ext) 0 16
 
