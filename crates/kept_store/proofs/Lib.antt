@@ -5,3 +5,8 @@ pub mod OpenLemmas
 pub mod ComingLemmas
 pub mod RecordLemmas
 pub mod FieldLemmas
+pub mod PartLemmas
+pub mod RunLemmas
+pub mod TableLemmas
+pub mod TableRuns
+pub mod GoingLemmas

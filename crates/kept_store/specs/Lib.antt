@@ -3,3 +3,4 @@ pub mod Sets
 pub mod Open
 pub mod Records
 pub mod Fields
+pub mod Tables

@@ -1,0 +1,6 @@
+pub mod Lines
+pub mod History
+pub mod Kept
+pub mod Sessions
+pub mod Turns
+pub mod Chains
