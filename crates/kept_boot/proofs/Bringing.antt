@@ -1,6 +1,6 @@
 -- Runs that are brought into table slots, one after another.
 use Rattle.std.proofs.Common.{◌≡◌, ◌≢◌, inl, inr, ℕ, zero, suc, ◌+◌, ◌*◌, ◌<◌, ◌≤◌, Bool, true, false, cond, List, [], ◌∷◌, ◌++◌, Some, length, set, refl, sym as flip, ap, ◌∙◌, subst, arith}
-use Rattle.std.specs.Prelude.{◌==◌, ◌&&◌, ◌||◌, map, slice_get, slice_index, slice_index_or}
+use Rattle.std.specs.Prelude.{IsTrue, ◌==◌, ◌&&◌, ◌||◌, map, slice_get, slice_index, slice_index_or}
 use Rattle.std.specs.List.{list_any, range_with_len}
 use Rattle.std.proofs.lemmas.Bool.{false≢true, cases_Bool, cases_eq, cases_lt}
 use Rattle.std.proofs.lemmas.List.FromFn.{length-map-range_with_len}
@@ -30,7 +30,7 @@ use Rattle.kept_store.proofs.OpenLemmas.{entry_here}
 use Rattle.kept_store.proofs.RestLemmas.{slot_low}
 use Rattle.kept_journal.specs.Steps.{parts, Stands, Step, Takes, Pends}
 use Rattle.kept_journal.proofs.Takes.{keeps_same, takes_none, takes_more, takes_takes}
-use Rattle.kept_boot.specs.Tables.{with_run, table_pages, FitsSlot, KeepsRun, OnlyTable, IsOfTable}
+use Rattle.kept_store.specs.Tables.{with_run, table_pages, FitsSlot, KeepsRun, OnlyTable}
 use Rattle.kept_boot.specs.Boots.{one_run, with_runs, one_table, fresh_tables, Installs}
 use Rattle.kept_boot.specs.Bringing.{KeepsOne, Brings}
 use Rattle.kept_boot.proofs.Fits.{chosen_fits}
@@ -70,11 +70,11 @@ not_of_table p place fresh barred = flip (ap (λ (b : Bool). b && table_pages p.
 
 -- what a cut leaves of a table slot
 pub fresh_takes : (m : SlotManifest) (k : ℕ) (a b : View) (s : State) → IsSlotManifest m → k < m.manifest.count → (place_of m k).fresh ≡ true → a.state ≡ Some s
-    → LeavesOnly (OnlyTable (place_of m k).slot s) 39 a b → WearsOnce (IsOfTable (place_of m k).slot) a b
+    → LeavesOnly (OnlyTable (place_of m k).slot s) 39 a b → WearsOnce (λ x place. IsTrue (table_pages (place_of m k).slot place)) a b
     → Takes (Step (Installs (stored_of m)) (one_table (place_of m k)) s) (one_table (place_of m k)) 39 a b
 fresh_takes m k a b s is lt fresh told leaves worn = record {
   leaves = weaker (OnlyTable (place_of m k).slot s) (Step (Installs (stored_of m)) (one_table (place_of m k)) s) 39 39 a b (omega arith) step leaves;
-  wears = λ place barred. worn.none s told place (λ is. false≢true (flip (not_of_table (place_of m k) place fresh barred) ∙ is));
+  wears = λ place barred. worn.none s told place (λ is. subst IsTrue (not_of_table (place_of m k) place fresh barred) is);
 }
   where
     step : (x : State) → OnlyTable (place_of m k).slot s x → Step (Installs (stored_of m)) (one_table (place_of m k)) s x

@@ -21,7 +21,7 @@ use Rattle.kept_laws.proofs.Store.{run_tells}
 use Rattle.kept_laws.proofs.Stored.{release_one}
 use Rattle.kept_store.proofs.RestLemmas.{pair_of, header_fits}
 use Rattle.kept_journal.specs.Steps.{parts}
-use Rattle.kept_boot.specs.Tables.{FitsSlot}
+use Rattle.kept_store.specs.Tables.{FitsSlot}
 
 -- the run of a package has the package's header
 packed_header : (slot : List ℕ) → header_of (run_in_package slot) ≡ header_of slot

@@ -12,7 +12,7 @@ use Rattle.kept_definitions.specs.Headline.{Chooses}
 use Rattle.kept_definitions.specs.Machine.{Mote}
 use Rattle.kept_laws.specs.Standing.{IsUnformatted}
 use Rattle.kept_journal.specs.Steps.{parts, finished, Pends}
-use Rattle.kept_boot.specs.Tables.{with_run, table_pages}
+use Rattle.kept_store.specs.Tables.{with_run, table_pages}
 use Rattle.kept_boot.specs.declared.BootFault.{BootFault}
 use Rattle.kept_boot.specs.declared.BootFault.TheVariants.{Fault, Unformatted}
 

@@ -15,13 +15,11 @@ ghost use Rattle.kept_manifests.specs.Slots.{IsSlotManifest, place_of, stored_of
 ghost use Rattle.kept_boot.specs.Bringing.{KeepsOne, Brings};
 ghost use Rattle.kept_boot.specs.Boots.{booted, boot_pages, boot_programs, HasStarted, Lags, IsBehind, WearsProgram, copied, one_run, with_runs, Installs, one_table, fresh_tables, installed_pages, program_pages, BootAnswers, is_fault, is_unformatted};
 
-mod tables;
-
-use crate::tables::keep_tables;
 use component_package::areas::{IMAGE_PAGES, STAGED};
 use flash_pages::{Board, Failed};
 use kept_journal::{JournalFault, finish, read_state};
 use kept_manifests::SlotManifest;
+use kept_store::keep_tables;
 use std::error::Error;
 use std::fmt;
 
