@@ -74,7 +74,7 @@ pub fresh_takes : (m : SlotManifest) (k : ℕ) (a b : View) (s : State) → IsSl
     → Takes (Step (Installs (stored_of m)) (one_table (place_of m k)) s) (one_table (place_of m k)) 39 a b
 fresh_takes m k a b s is lt fresh told leaves worn = record {
   leaves = weaker (OnlyTable (place_of m k).slot s) (Step (Installs (stored_of m)) (one_table (place_of m k)) s) 39 39 a b (omega arith) step leaves;
-  wears = λ place barred. worn.none s told place (λ is. subst IsTrue (not_of_table (place_of m k) place fresh barred) is);
+  wears = λ place barred. worn.none s told place (λ is. false≢true (flip (not_of_table (place_of m k) place fresh barred) ∙ is));
 }
   where
     step : (x : State) → OnlyTable (place_of m k).slot s x → Step (Installs (stored_of m)) (one_table (place_of m k)) s x
