@@ -5,6 +5,7 @@
 #![tactic(auto)]
 
 mod current;
+mod exports;
 mod fields;
 mod open;
 mod places;
@@ -13,6 +14,7 @@ mod set;
 mod slots;
 
 pub use current::open_current;
+pub use exports::exports_at;
 pub use open::open_set;
 pub use records::{export_at, read_reloc, reloc_at};
 pub use set::StoredSet;
