@@ -30,7 +30,8 @@ copied_behind : (part : List ℕ) (place at old : ℕ) → place + length part �
 copied_behind part place at old le = rw (le-ltb at (place + length part) le, and-false (nat_le place at)) refl
 
 -- the middle of a page that is a piece of a part
-pub copied : (part into piece : List ℕ) (place base low high m : ℕ) → m ≡ high - base - (low - base) → length into ≡ 256 → low ≡ max place base → high ≡ min (place + length part) (base + 256) → low < high
+pub copied : (part into piece : List ℕ) (place base low high m : ℕ) → m ≡ high - base - (low - base) → length into ≡ 256 → low ≡ max place base
+    → high ≡ min (place + length part) (base + 256) → low < high
     → piece ≡ slice_range part (low - place) (low - place + m) → (k : ℕ) → k < 256
     → get_or (put_mid (low - base) (high - base - (low - base)) into piece) k 0 ≡ copied_in part place (base + k) (get_or into k 0)
 copied part into piece place base low high m same_m wide is_low is_high some cut k lt =
@@ -46,17 +47,21 @@ copied part into piece place base low high m same_m wide is_low is_high some cut
       | inr from ↦ get_or-append_right (take a into) (piece ++ drop n (drop a into)) k 0 (omega (arith, front, wide, from, is_low)) ∙ elim (cases_lt (base + k) high) [
         | inl inside ↦
             get_or-append piece (drop n (drop a into)) 0 (k - length (take a into)) (omega (arith, front, wide, from, inside, len, is_low))
-            ∙ ap (λ (l : List ℕ). get_or l (k - length (take a into)) 0) is ∙ get_or-slice part (low - place) (low - place + n) (k - length (take a into)) (omega (arith, front, wide, from, inside, is_low))
-            ∙ ap (λ (i : ℕ). get_or part i 0) (omega (arith, front, wide, from, inside, is_low, is_high)) ∙ sym (copied_here part place (base + k) (get_or into k 0) (omega (arith, from, is_low)) (omega (arith, inside, is_high)))
+            ∙ ap (λ (l : List ℕ). get_or l (k - length (take a into)) 0) is ∙ get_or-slice part (low - place) (low - place + n) (k - length (take a into))
+            (omega (arith, front, wide, from, inside, is_low))
+            ∙ ap (λ (i : ℕ). get_or part i 0) (omega (arith, front, wide, from, inside, is_low, is_high))
+            ∙ sym (copied_here part place (base + k) (get_or into k 0) (omega (arith, from, is_low)) (omega (arith, inside, is_high)))
         | inr behind ↦
-            get_or-append_right piece (drop n (drop a into)) (k - length (take a into)) 0 (omega (arith, front, wide, from, behind, len, is_low)) ∙ get_or-drop n (drop a into) (k - length (take a into) - length piece) 0
+            get_or-append_right piece (drop n (drop a into)) (k - length (take a into)) 0 (omega (arith, front, wide, from, behind, len, is_low))
+            ∙ get_or-drop n (drop a into) (k - length (take a into) - length piece) 0
             ∙ get_or-drop a into (n + (k - length (take a into) - length piece)) 0 ∙ ap (λ (i : ℕ). get_or into i 0) (omega (arith, front, wide, from, behind, len, is_low, some))
             ∙ sym (copied_behind part place (base + k) (get_or into k 0) (omega (arith, behind, is_high, lt)))
       ]
     ]
 
 -- nothing of a part that lies elsewhere
-pub not_copied : (part : List ℕ) (place base low high k old : ℕ) → low ≡ max place base → high ≡ min (place + length part) (base + 256) → high ≤ low → k < 256 → old ≡ copied_in part place (base + k) old
+pub not_copied : (part : List ℕ) (place base low high k old : ℕ) → low ≡ max place base → high ≡ min (place + length part) (base + 256) → high ≤ low → k < 256
+    → old ≡ copied_in part place (base + k) old
 not_copied part place base low high k old is_low is_high none lt =
     elim (cases_lt (base + k) place) [
       | inl below ↦ sym (copied_before part place (base + k) old below)
@@ -75,14 +80,17 @@ get_or-front : (b back : List ℕ) (at d : ℕ) → at < length b → get_or (b 
 get_or-front b back at d lt = get_or-append b back d at lt
 
 -- one part more
-pub shows_more : (b part old new : List ℕ) (base place : ℕ) → place ≡ length b → Shows base b old → ((k : ℕ) → k < 256 → get_or new k 0 ≡ copied_in part place (base + k) (get_or old k 0)) → Shows base (b ++ part) new
+pub shows_more : (b part old new : List ℕ) (base place : ℕ) → place ≡ length b → Shows base b old → ((k : ℕ) → k < 256 → get_or new k 0 ≡ copied_in part place (base + k) (get_or old k 0))
+    → Shows base (b ++ part) new
 shows_more b part old new base place is shows copies k lt =
     elim (cases_lt (base + k) place) [
       | inl below ↦ copies k lt ∙ copied_before part place (base + k) (get_or old k 0) below ∙ shows k lt ∙ sym (get_or-front b part (base + k) 255 (omega (arith, below, is)))
       | inr from ↦ elim (cases_lt (base + k) (place + length part)) [
-        | inl inside ↦ copies k lt ∙ copied_here part place (base + k) (get_or old k 0) from inside ∙ get_or_default part (base + k - place) 0 255 (omega (arith, from, inside)) ∙ ap (λ (i : ℕ). get_or part (base + k - i) 255) is
+        | inl inside ↦ copies k lt ∙ copied_here part place (base + k) (get_or old k 0) from inside ∙ get_or_default part (base + k - place) 0 255 (omega (arith, from, inside))
+            ∙ ap (λ (i : ℕ). get_or part (base + k - i) 255) is
             ∙ sym (get_or-append_right b part (base + k) 255 (omega (arith, from, is)))
-        | inr behind ↦ copies k lt ∙ copied_behind part place (base + k) (get_or old k 0) behind ∙ shows k lt ∙ get_or_past b (base + k) 255 (omega (arith, from, is)) ∙ sym (get_or_past (b ++ part) (base + k) 255 (omega (arith, behind, is, length-append b part)))
+        | inr behind ↦ copies k lt ∙ copied_behind part place (base + k) (get_or old k 0) behind ∙ shows k lt ∙ get_or_past b (base + k) 255 (omega (arith, from, is))
+            ∙ sym (get_or_past (b ++ part) (base + k) 255 (omega (arith, behind, is, length-append b part)))
       ]
     ]
 
@@ -109,7 +117,8 @@ part_at f set i c here =
     let one : flat_map f (c ∷ []) ≡ f c = append-nil (f c) in
     let more : flat_map f (take (i + 1) set) ≡ flat_map f (take i set) ++ f c =
     ap (flat_map f) (take_more set i c lt ∙ ap (λ (d : Component). take i set ++ d ∷ []) (sym is)) ∙ flat_map-append f (take i set) (c ∷ []) ∙ ap (λ (r : List ℕ). flat_map f (take i set) ++ r) one in
-    let whole : flat_map f set ≡ flat_map f (take (i + 1) set) ++ flat_map f (drop (i + 1) set) = ap (flat_map f) (sym (take-append-drop (i + 1) set)) ∙ flat_map-append f (take (i + 1) set) (drop (i + 1) set) in
+    let whole : flat_map f set ≡ flat_map f (take (i + 1) set) ++ flat_map f (drop (i + 1) set) = ap (flat_map f) (sym (take-append-drop (i + 1) set))
+    ∙ flat_map-append f (take (i + 1) set) (drop (i + 1) set) in
     record {
       more = more;
       room = omega (arith, ap length whole, length-append (flat_map f (take (i + 1) set)) (flat_map f (drop (i + 1) set)), ap length more, length-append (flat_map f (take i set)) (f c));
@@ -119,7 +128,8 @@ pub blank_page : (k : ℕ) → k < 256 → get_or (replicate {A = ℕ} 256 255) 
 blank_page k lt = get_or-replicate {A = ℕ} 256 k 255 0 lt
 
 -- where a part begins, by the rooms of the components before it
-pub base_is : (f : Component → List ℕ) (h : Room → ℕ) (set : List Component) (k : ℕ) → ((c : Component) → h (room_of c) ≡ length (f c)) → sum_by h (take k (rooms_of set)) ≡ length (flat_map f (take k set))
+pub base_is : (f : Component → List ℕ) (h : Room → ℕ) (set : List Component) (k : ℕ) → ((c : Component) → h (room_of c) ≡ length (f c))
+    → sum_by h (take k (rooms_of set)) ≡ length (flat_map f (take k set))
 base_is f h [] zero each = refl
 base_is f h [] (suc k) each = refl
 base_is f h (c ∷ cs) zero each = refl
@@ -130,4 +140,5 @@ base_is f h (c ∷ cs) (suc k) each =
 pub total_is : (f : Component → List ℕ) (h : Room → ℕ) (set : List Component) → ((c : Component) → h (room_of c) ≡ length (f c)) → sum_by h (rooms_of set) ≡ length (flat_map f set)
 total_is f h set each =
     let n : ℕ = length set in
-    sym (ap (sum_by h) (take_all n (rooms_of set) (omega (arith, length-map set room_of)))) ∙ base_is f h set n each ∙ ap (λ (l : List Component). length (flat_map f l)) (take_all n set (omega arith))
+    sym (ap (sum_by h) (take_all n (rooms_of set) (omega (arith, length-map set room_of)))) ∙ base_is f h set n each
+    ∙ ap (λ (l : List Component). length (flat_map f l)) (take_all n set (omega arith))

@@ -77,7 +77,8 @@ byte_of_field b x at inside =
     let k : x.place + (at - x.place) ≡ at = omega (arith, low) in
     get_or-slice b x.place (end_of x) (at - x.place) (omega (arith, low, high)) ∙ ap (λ i. get_or b i 0) k
 
-pub done_more : (xs : List Fixup) (old w page new : List ℕ) (base i : ℕ) (x : Fixup) → FieldsRise 0 xs → slice_get xs i ≡ Some x → AreBytes old → AreBytes w → length (field_of old x) ≡ width_of (shape_of x.kind)
+pub done_more : (xs : List Fixup) (old w page new : List ℕ) (base i : ℕ) (x : Fixup) → FieldsRise 0 xs → slice_get xs i ≡ Some x → AreBytes old → AreBytes w
+    → length (field_of old x) ≡ width_of (shape_of x.kind)
     → ArePut xs old w → PatchesWindow x base page new → IsDone xs old w base i page → IsDone xs old w base (i + 1) new
 done_more xs old w page new base i x rise here p q wide put patches done = record { byte = byte }
   where
@@ -87,9 +88,11 @@ done_more xs old w page new base i x rise here p q wide put patches done = recor
         elim (cases_Bool (covers (base + k) x)) [
           | inl inside ↦
               let both = and_parts (nat_le x.place (base + k)) (nat_lt (base + k) (end_of x)) inside in
-              let before_it : list_any (covers (base + k)) (take i xs) ≡ false = free x (take i xs) (base + k) (rise_before xs 0 i x rise here).1 (leb-true x.place (base + k) both.0) (ltb-true (base + k) (end_of x) both.1) in
+              let before_it : list_any (covers (base + k)) (take i xs) ≡ false = free x (take i xs) (base + k) (rise_before xs 0 i x rise here).1 (leb-true x.place (base + k) both.0)
+              (ltb-true (base + k) (end_of x) both.1) in
               let was = rw before_it at (done.byte k lt) in
-              let there = patches.inside k (field_of old x) (field_of w x) lt inside (AreBytes-slice old x.place (end_of x) p) (AreBytes-slice w x.place (end_of x) q) wide (all_at (HasField old w) xs i x put.fields here)
+              let there = patches.inside k (field_of old x) (field_of w x) lt inside (AreBytes-slice old x.place (end_of x) p) (AreBytes-slice w x.place (end_of x) q) wide
+              (all_at (HasField old w) xs i x put.fields here)
               (was ∙ sym (byte_of_field old x (base + k) inside)) in
               rw (more, before_it, inside) (there ∙ byte_of_field w x (base + k) inside)
           | inr outside ↦
@@ -154,7 +157,8 @@ passed_first xs base i is at above = ap (λ (n : ℕ). list_any (covers at) (tak
 -- ---- one field
 
 -- one byte more
-pub byte_more : (keep set : List ℕ) (from n at first now new : ℕ) → now ≡ byte_in keep set from n at first → new ≡ cond (eqb at (from + n)) (bit_or (bit_and now (get_or keep n 0)) (get_or set n 0)) now → new ≡ byte_in keep set from (n + 1) at first
+pub byte_more : (keep set : List ℕ) (from n at first now new : ℕ) → now ≡ byte_in keep set from n at first
+    → new ≡ cond (eqb at (from + n)) (bit_or (bit_and now (get_or keep n 0)) (get_or set n 0)) now → new ≡ byte_in keep set from (n + 1) at first
 byte_more keep set from n at first now new was is =
     elim (cases_eq at (from + n)) [
       | inl same ↦
@@ -191,7 +195,8 @@ pub padded_in : (plain : List ℕ) (at : ℕ) → at < length plain → get_or p
 padded_in plain at lt = sym (get_or-append plain (replicate (122880 - length plain) 255) 0 at lt)
 
 pub padded_past : (plain : List ℕ) (at : ℕ) → length plain ≤ at → at < 122880 → 255 ≡ get_or (padded plain) at 0
-padded_past plain at le lt = sym (get_or-append_right plain (replicate (122880 - length plain) 255) at 0 le ∙ get_or-replicate {A = ℕ} (122880 - length plain) (at - length plain) 255 0 (omega (arith, le, lt)))
+padded_past plain at le lt = sym (get_or-append_right plain (replicate (122880 - length plain) 255) at 0 le
+    ∙ get_or-replicate {A = ℕ} (122880 - length plain) (at - length plain) 255 0 (omega (arith, le, lt)))
 
 pub before_some : (o : Option Fixup) (end : ℕ) (x : Fixup) → Some x ≡ before end o → o ≡ Some x
 before_some None end x e = absurd cc
@@ -209,7 +214,8 @@ pub near : (z : ℤ) → FitsSigned w32 z → IsNear z
 near (pos n) fits = (search rules, search rules)
 near (negsuc n) fits = (grind arith, grind arith)
 
-pub among : (b : List ℕ) (xs : List Fixup) (plain : List ℕ) (end i : ℕ) (x : Fixup) → Lists b xs → AllByRecursion (CanBePut (length plain)) xs → Some x ≡ before end (slice_get xs i) → IsAmong xs plain i x
+pub among : (b : List ℕ) (xs : List Fixup) (plain : List ℕ) (end i : ℕ) (x : Fixup) → Lists b xs → AllByRecursion (CanBePut (length plain)) xs → Some x ≡ before end (slice_get xs i)
+    → IsAmong xs plain i x
 among b xs plain end i x l fits is =
     let here = before_some (slice_get xs i) end x is in
     let entry = all_at IsEntry xs i x l.entries here in
@@ -223,7 +229,8 @@ among b xs plain end i x l fits is =
     }
 
 -- the next field of a page
-pub next_done : (b : List ℕ) (xs : List Fixup) (plain w page new : List ℕ) (base end i : ℕ) (x : Fixup) → Lists b xs → AllByRecursion (CanBePut (length plain)) xs → Some x ≡ before end (slice_get xs i) → AreBytes plain → AreBytes w
+pub next_done : (b : List ℕ) (xs : List Fixup) (plain w page new : List ℕ) (base end i : ℕ) (x : Fixup) → Lists b xs → AllByRecursion (CanBePut (length plain)) xs
+    → Some x ≡ before end (slice_get xs i) → AreBytes plain → AreBytes w
     → ArePatched xs plain w → PatchesWindow x base page new → IsDone xs (padded plain) w base i page → IsDone xs (padded plain) w base (i + 1) new
 next_done b xs plain w page new base end i x l fits is p q put patches done =
     let a = among b xs plain end i x l fits is in

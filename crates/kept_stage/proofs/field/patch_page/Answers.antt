@@ -50,5 +50,6 @@ loop-i-preserved g c = record {
       let is : Some c.in-Some.x ≡ before (c.args.base + 256) (slice_get xs c.loop-i.i) =
       sym c.in-Some.is ∙ c.in-Ok.ensures.entry s (c.loop-i.invariant.reads.state ∙ told) (c.loop-i.invariant.keeps s told keeps) xs l in
       let a = among _ xs plain (c.args.base + 256) c.loop-i.i c.in-Some.x l fits is in
-      next_done _ xs plain whole c.loop-i.into c.put_part.new.page c.args.base (c.args.base + 256) c.loop-i.i c.in-Some.x l fits is p q put (c.put_part.ensures a.possible) (c.loop-i.invariant.done s told keeps xs plain whole l passed fits p q put shows);
+      next_done _ xs plain whole c.loop-i.into c.put_part.new.page c.args.base (c.args.base + 256) c.loop-i.i c.in-Some.x l fits is p q put (c.put_part.ensures a.possible)
+      (c.loop-i.invariant.done s told keeps xs plain whole l passed fits p q put shows);
 }

@@ -14,7 +14,8 @@ returns-in_ok-part_bytes-clause-bytes g c = λ s told comp here j lt.
     let is_high : high ≡ min (c.args.place + length part) (c.args.base + 256) = c.min-high.ensures ∙ ap (λ (n : ℕ). min (c.args.place + n) (c.args.base + 256)) (sym long) in
     let a : ℕ = low - c.args.base in
     let n : ℕ = high - c.args.base - a in
-    copied part c.args.into.now c.part_bytes.new.into c.args.place c.args.base low high _ (length_mid a n c.args.into.now (omega (arith, wide, c.min-high.ensures, c.max-low.ensures, c.if-low-high.true))) wide
+    copied part c.args.into.now c.part_bytes.new.into c.args.place c.args.base low high _ (length_mid a n c.args.into.now
+    (omega (arith, wide, c.min-high.ensures, c.max-low.ensures, c.if-low-high.true))) wide
     c.max-low.ensures is_high c.if-low-high.true (c.in_ok-part_bytes.ensures.answer s told comp here) j lt
 
 pub returns-else-low-high-clause-bytes : goal.returns-else-low-high-clause-bytes

@@ -31,7 +31,8 @@ loop-k-preserved g c = record {
       let comp = component_at s set components k holds c.loop-k-test.true in
       let at = part_at (λ c. c.code) components k comp.it comp.here in
       subst (λ (b : List ℕ). Shows c.args.base b c.copy_part.new.into) (sym at.more)
-      (shows_more (flat_map (λ c. c.code) (take k components)) comp.it.code c.loop-k.into c.copy_part.new.into c.args.base _ (code_at set c.args.plan.now c.requires.set c.rooms.ensures c.requires.plan s components holds k c.loop-k-test.true)
+      (shows_more (flat_map (λ c. c.code) (take k components)) comp.it.code c.loop-k.into c.copy_part.new.into c.args.base _
+      (code_at set c.args.plan.now c.requires.set c.rooms.ensures c.requires.plan s components holds k c.loop-k-test.true)
       (c.loop-k.invariant.shows s told components holds) (c.in-Ok.ensures.bytes s (c.loop-k.invariant.reads.state ∙ told) comp.it comp.is));
 }
 

@@ -19,5 +19,6 @@ invariant-loop-k-2 g l = record {
   long : length l.into ≡ 256;
   reads : Reads (g.B.Board.view l.initial.board) (g.B.Board.view l.board);
   fault : (g.B.Board.view l.board).flash_faults ≡ (g.B.Board.view l.initial.board).flash_faults;
-  shows : Told (g.B.Board.view l.initial.board) (λ s. (components : List Component) → HoldsSet s l.set components → Shows l.base (flat_map (λ c. c.code) components ++ flat_map (λ c. c.init) (take l.k components)) l.into);
+  shows : Told (g.B.Board.view l.initial.board) (λ s. (components : List Component) → HoldsSet s l.set components
+      → Shows l.base (flat_map (λ c. c.code) components ++ flat_map (λ c. c.init) (take l.k components)) l.into);
 }

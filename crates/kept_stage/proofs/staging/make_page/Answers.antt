@@ -30,5 +30,7 @@ returns-clause-page g c = λ s told keeps starts pages are.
     let few = plain_fits set c.args.plan.now c.requires.set c.rooms.ensures c.requires.plan s S are.held in
     let bytes = plain_bytes S (held_set s set S c.requires.set c.rooms.ensures are.held).is.components in
     let shows = shows_padded plain c.plain_page.new.into base (omega (arith, c.requires.page)) (c.in-Ok.ensures.shows s told S are.held) in
-    let each = c.in-Ok-patch_page.ensures.page s (c.plain_page.ensures.reads.state ∙ told) keeps are.list plain whole are.lists (starts are.list are.lists) are.fits bytes are.patched.bytes are.patched.put shows in
-    page_of_whole whole c.patch_page.new.into c.args.page c.patch_page.array_long (whole_long plain whole few are.patched.put.size) c.requires.page each ∙ sym (page_at_of s set pages c.args.page c.requires.page are)
+    let each = c.in-Ok-patch_page.ensures.page s (c.plain_page.ensures.reads.state ∙ told) keeps are.list plain whole are.lists (starts are.list are.lists) are.fits bytes are.patched.bytes
+    are.patched.put shows in
+    page_of_whole whole c.patch_page.new.into c.args.page c.patch_page.array_long (whole_long plain whole few are.patched.put.size) c.requires.page each
+    ∙ sym (page_at_of s set pages c.args.page c.requires.page are)

@@ -11,4 +11,5 @@ returns-clause-reads g c = reads_reads _ _ _ c.first_at.ensures.reads c.make_pag
 
 pub returns-clause-page : goal.returns-clause-page
 returns-clause-page g c = λ s told pages are.
-    c.in-Ok-make_page.ensures.page s (c.first_at.ensures.reads.state ∙ told) (c.new-list.ensures s) (λ xs l. passed_first xs (256 * c.args.page) c.in-Ok.first (c.in-Ok.ensures.first s told xs l)) pages are
+    c.in-Ok-make_page.ensures.page s (c.first_at.ensures.reads.state ∙ told) (c.new-list.ensures s)
+    (λ xs l. passed_first xs (256 * c.args.page) c.in-Ok.first (c.in-Ok.ensures.first s told xs l)) pages are

@@ -26,21 +26,28 @@ pub make_page-requires-clause-first : goal.make_page-requires-clause-first
 make_page-requires-clause-first g c = c.loop-page.invariant.low
 
 pub returns-in_default-clause-each : goal.returns-in_default-clause-each
-returns-in_default-clause-each g c = λ s told. each_read 306 785 480 refl OnlyStaged only_staged_next s _ (g.B.Board.view c.loop-page.board) (g.B.Board.view c.make_page.new.board) c.loop-page.page c.loop-page-test.true (c.loop-page.invariant.pass s told) c.make_page.ensures.reads
+returns-in_default-clause-each g c = λ s told. each_read 306 785 480 refl OnlyStaged only_staged_next s _ (g.B.Board.view c.loop-page.board) (g.B.Board.view c.make_page.new.board)
+    c.loop-page.page c.loop-page-test.true (c.loop-page.invariant.pass s told) c.make_page.ensures.reads
 
 pub returns-in_default-clause-once : goal.returns-in_default-clause-once
-returns-in_default-clause-once g c = told_wears _ _ _ (λ s told. once_read 306 785 480 refl OnlyStaged only_staged_next s _ (g.B.Board.view c.loop-page.board) (g.B.Board.view c.make_page.new.board) c.loop-page.page c.loop-page-test.true (c.loop-page.invariant.pass s told) c.make_page.ensures.reads)
+returns-in_default-clause-once g c = told_wears _ _ _ (λ s told. once_read 306 785 480 refl OnlyStaged only_staged_next s _ (g.B.Board.view c.loop-page.board)
+    (g.B.Board.view c.make_page.new.board) c.loop-page.page c.loop-page-test.true (c.loop-page.invariant.pass s told) c.make_page.ensures.reads)
 
 pub returns-in_default-clause-wear : goal.returns-in_default-clause-wear
 returns-in_default-clause-wear g c = λ s told pages are.
-    wear_read 306 785 480 refl OnlyStaged only_staged_next s _ (g.B.Board.view c.loop-page.board) (g.B.Board.view c.make_page.new.board) c.loop-page.page c.loop-page-test.true (c.loop-page.invariant.pass s told) c.make_page.ensures.reads
+    wear_read 306 785 480 refl OnlyStaged only_staged_next s _ (g.B.Board.view c.loop-page.board) (g.B.Board.view c.make_page.new.board) c.loop-page.page c.loop-page-test.true
+    (c.loop-page.invariant.pass s told) c.make_page.ensures.reads
     pages (pages_count s c.args.set.now pages are) (c.loop-page.invariant.spares s told pages are) told
 
 pub returns-in_default-program_if_different-clause-each : goal.returns-in_default-program_if_different-clause-each
-returns-in_default-program_if_different-clause-each g c = λ s told. each_program 306 785 480 refl OnlyStaged only_staged_next s _ (g.B.Board.view c.loop-page.board) (g.B.Board.view c.make_page.new.board) c.loop-page.page c.loop-page-test.true (c.loop-page.invariant.pass s told) c.make_page.ensures.reads (g.B.Board.view c.program_if_different.new.board) c.make_page.new.into c.program_if_different.ensures.programs
+returns-in_default-program_if_different-clause-each g c = λ s told. each_program 306 785 480 refl OnlyStaged only_staged_next s _ (g.B.Board.view c.loop-page.board)
+    (g.B.Board.view c.make_page.new.board) c.loop-page.page c.loop-page-test.true (c.loop-page.invariant.pass s told) c.make_page.ensures.reads
+    (g.B.Board.view c.program_if_different.new.board) c.make_page.new.into c.program_if_different.ensures.programs
 
 pub returns-in_default-program_if_different-clause-once : goal.returns-in_default-program_if_different-clause-once
-returns-in_default-program_if_different-clause-once g c = told_wears _ _ _ (λ s told. once_program 306 785 480 refl OnlyStaged only_staged_next s _ (g.B.Board.view c.loop-page.board) (g.B.Board.view c.make_page.new.board) c.loop-page.page c.loop-page-test.true (c.loop-page.invariant.pass s told) c.make_page.ensures.reads (g.B.Board.view c.program_if_different.new.board) c.make_page.new.into c.program_if_different.ensures.programs)
+returns-in_default-program_if_different-clause-once g c = told_wears _ _ _ (λ s told. once_program 306 785 480 refl OnlyStaged only_staged_next s _ (g.B.Board.view c.loop-page.board)
+    (g.B.Board.view c.make_page.new.board) c.loop-page.page c.loop-page-test.true (c.loop-page.invariant.pass s told) c.make_page.ensures.reads
+    (g.B.Board.view c.program_if_different.new.board) c.make_page.new.into c.program_if_different.ensures.programs)
 
 pub returns-in_default-program_if_different-clause-wear : goal.returns-in_default-program_if_different-clause-wear
 returns-in_default-program_if_different-clause-wear g c = λ s told pages are.
@@ -49,8 +56,10 @@ returns-in_default-program_if_different-clause-wear g c = λ s told pages are.
     let only = pass.run.ends in
     let keeps_x = list_reader_stays s x c.loop-page.list only (c.loop-page.invariant.keeps s told) in
     let bytes_are : c.make_page.new.into ≡ get_or pages c.loop-page.page [] =
-    c.in-Ok.ensures.page x pass.run.told keeps_x (λ xs l. c.loop-page.invariant.passed s told xs (subst (λ (b : List ℕ). Lists b xs) (list_stays s x only) l)) pages (pages_stay s x c.args.set.now pages only are) in
-    wear_program 306 785 480 refl OnlyStaged only_staged_next s _ (g.B.Board.view c.loop-page.board) (g.B.Board.view c.make_page.new.board) c.loop-page.page c.loop-page-test.true (c.loop-page.invariant.pass s told) c.make_page.ensures.reads (g.B.Board.view c.program_if_different.new.board) c.make_page.new.into c.program_if_different.ensures.programs
+    c.in-Ok.ensures.page x pass.run.told keeps_x (λ xs l. c.loop-page.invariant.passed s told xs (subst (λ (b : List ℕ). Lists b xs) (list_stays s x only) l)) pages
+    (pages_stay s x c.args.set.now pages only are) in
+    wear_program 306 785 480 refl OnlyStaged only_staged_next s _ (g.B.Board.view c.loop-page.board) (g.B.Board.view c.make_page.new.board) c.loop-page.page c.loop-page-test.true
+    (c.loop-page.invariant.pass s told) c.make_page.ensures.reads (g.B.Board.view c.program_if_different.new.board) c.make_page.new.into c.program_if_different.ensures.programs
     pages (pages_count s c.args.set.now pages are) bytes_are (c.loop-page.invariant.spares s told pages are) told
 
 pub loop-page-preserved : goal.loop-page-preserved
@@ -59,7 +68,9 @@ loop-page-preserved g c = record {
   low = c.in-Ok.ensures.next;
   uses = uses_uses _ _ _ (uses_uses _ _ _ c.loop-page.invariant.uses c.make_page.ensures.reads.uses) c.program_if_different.ensures.programs.uses;
   fault = c.in-Ok-program_if_different.ensures.faults ∙ c.in-Ok.ensures.faults ∙ c.loop-page.invariant.fault;
-  pass = λ s told. pass_next 306 785 480 refl OnlyStaged only_staged_next s _ (g.B.Board.view c.loop-page.board) (g.B.Board.view c.make_page.new.board) c.loop-page.page c.loop-page-test.true (c.loop-page.invariant.pass s told) c.make_page.ensures.reads (g.B.Board.view c.program_if_different.new.board) c.make_page.new.into c.program_if_different.ensures.programs c.in-Ok-program_if_different.ensures.ok;
+  pass = λ s told. pass_next 306 785 480 refl OnlyStaged only_staged_next s _ (g.B.Board.view c.loop-page.board) (g.B.Board.view c.make_page.new.board) c.loop-page.page c.loop-page-test.true
+      (c.loop-page.invariant.pass s told) c.make_page.ensures.reads (g.B.Board.view c.program_if_different.new.board) c.make_page.new.into c.program_if_different.ensures.programs
+      c.in-Ok-program_if_different.ensures.ok;
   keeps = λ s told.
       let pass = c.loop-page.invariant.pass s told in
       let x = pass.run.end in
@@ -78,8 +89,11 @@ loop-page-preserved g c = record {
       let only = pass.run.ends in
       let keeps_x = list_reader_stays s x c.loop-page.list only (c.loop-page.invariant.keeps s told) in
       let bytes_are : c.make_page.new.into ≡ get_or pages c.loop-page.page [] =
-      c.in-Ok.ensures.page x pass.run.told keeps_x (λ xs l. c.loop-page.invariant.passed s told xs (subst (λ (b : List ℕ). Lists b xs) (list_stays s x only) l)) pages (pages_stay s x c.args.set.now pages only are) in
-      holds_next 306 785 480 refl OnlyStaged only_staged_next s _ (g.B.Board.view c.loop-page.board) (g.B.Board.view c.make_page.new.board) c.loop-page.page c.loop-page-test.true (c.loop-page.invariant.pass s told) c.make_page.ensures.reads (g.B.Board.view c.program_if_different.new.board) c.make_page.new.into c.program_if_different.ensures.programs c.in-Ok-program_if_different.ensures.ok (omega arith)
+      c.in-Ok.ensures.page x pass.run.told keeps_x (λ xs l. c.loop-page.invariant.passed s told xs (subst (λ (b : List ℕ). Lists b xs) (list_stays s x only) l)) pages
+      (pages_stay s x c.args.set.now pages only are) in
+      holds_next 306 785 480 refl OnlyStaged only_staged_next s _ (g.B.Board.view c.loop-page.board) (g.B.Board.view c.make_page.new.board) c.loop-page.page c.loop-page-test.true
+      (c.loop-page.invariant.pass s told) c.make_page.ensures.reads (g.B.Board.view c.program_if_different.new.board) c.make_page.new.into c.program_if_different.ensures.programs
+      c.in-Ok-program_if_different.ensures.ok (omega arith)
       (λ p. get_or pages p []) bytes_are (c.loop-page.invariant.holds s told pages are);
   spares = λ s told pages are.
       let pass = c.loop-page.invariant.pass s told in
@@ -87,8 +101,10 @@ loop-page-preserved g c = record {
       let only = pass.run.ends in
       let keeps_x = list_reader_stays s x c.loop-page.list only (c.loop-page.invariant.keeps s told) in
       let bytes_are : c.make_page.new.into ≡ get_or pages c.loop-page.page [] =
-      c.in-Ok.ensures.page x pass.run.told keeps_x (λ xs l. c.loop-page.invariant.passed s told xs (subst (λ (b : List ℕ). Lists b xs) (list_stays s x only) l)) pages (pages_stay s x c.args.set.now pages only are) in
-      spares_next 306 785 480 refl OnlyStaged only_staged_next s _ (g.B.Board.view c.loop-page.board) (g.B.Board.view c.make_page.new.board) c.loop-page.page c.loop-page-test.true (c.loop-page.invariant.pass s told) c.make_page.ensures.reads (g.B.Board.view c.program_if_different.new.board) c.make_page.new.into c.program_if_different.ensures.programs
+      c.in-Ok.ensures.page x pass.run.told keeps_x (λ xs l. c.loop-page.invariant.passed s told xs (subst (λ (b : List ℕ). Lists b xs) (list_stays s x only) l)) pages
+      (pages_stay s x c.args.set.now pages only are) in
+      spares_next 306 785 480 refl OnlyStaged only_staged_next s _ (g.B.Board.view c.loop-page.board) (g.B.Board.view c.make_page.new.board) c.loop-page.page c.loop-page-test.true
+      (c.loop-page.invariant.pass s told) c.make_page.ensures.reads (g.B.Board.view c.program_if_different.new.board) c.make_page.new.into c.program_if_different.ensures.programs
       (λ p. get_or pages p []) bytes_are (c.loop-page.invariant.spares s told pages are);
 }
 
@@ -101,14 +117,17 @@ returns-clause-ok g c = λ s told pages are.
     (subst (λ (n : ℕ). HoldsFirst 306 n x (λ p. get_or pages p [])) all (c.loop-page.invariant.holds s told pages are x pass.run.told))
 
 pub returns-clause-each : goal.returns-clause-each
-returns-clause-each g c = λ s told. let pass = c.loop-page.invariant.pass s told in weaker (OnlyStaged s) (OnlyStaged s) c.loop-page.page 480 _ (g.B.Board.view c.loop-page.board) c.loop-page.invariant.inside (λ x here. here) pass.run
+returns-clause-each g c = λ s told. let pass = c.loop-page.invariant.pass s told in weaker (OnlyStaged s) (OnlyStaged s) c.loop-page.page 480 _ (g.B.Board.view c.loop-page.board)
+    c.loop-page.invariant.inside (λ x here. here) pass.run
 
 pub returns-clause-once : goal.returns-clause-once
-returns-clause-once g c = told_wears _ _ _ (λ s told. wears_in 306 785 c.loop-page.page _ (g.B.Board.view c.loop-page.board) (omega (arith, c.loop-page.invariant.inside)) (c.loop-page.invariant.pass s told).worn)
+returns-clause-once g c = told_wears _ _ _ (λ s told. wears_in 306 785 c.loop-page.page _ (g.B.Board.view c.loop-page.board) (omega (arith, c.loop-page.invariant.inside))
+    (c.loop-page.invariant.pass s told).worn)
 
 pub returns-clause-wear : goal.returns-clause-wear
 returns-clause-wear g c = λ s told pages are.
-    wears_other 306 c.loop-page.page pages s _ (g.B.Board.view c.loop-page.board) told (omega (arith, c.loop-page.invariant.inside, pages_count s c.args.set.now pages are)) (c.loop-page.invariant.pass s told).worn (c.loop-page.invariant.spares s told pages are)
+    wears_other 306 c.loop-page.page pages s _ (g.B.Board.view c.loop-page.board) told (omega (arith, c.loop-page.invariant.inside, pages_count s c.args.set.now pages are))
+    (c.loop-page.invariant.pass s told).worn (c.loop-page.invariant.spares s told pages are)
 
 -- the set stays wherever only the staged image changes
 pub returns-in_default-clause-held : goal.returns-in_default-clause-held
