@@ -1,19 +1,18 @@
 -- Fields of a component rise, so those before a window of a part stand in front, and those behind it at the end.
-use Rattle.std.proofs.Common.{◌≡◌, inl, inr, ℕ, zero, suc, ◌+◌, ◌-◌, ◌<◌, ◌≤◌, Bool, true, false, cond, Some, List, [], ◌∷◌, ◌++◌, length, take, drop, get_or, refl, sym, ap, subst, ◌∙◌, arith, take-append-drop}
+use Rattle.std.proofs.Common.{◌≡◌, inl, inr, ℕ, zero, suc, ◌+◌, ◌-◌, ◌<◌, ◌≤◌, Bool, true, false, cond, Some, List, [], ◌∷◌, length, take, get_or, refl, sym, ap, subst, ◌∙◌, arith}
 use Rattle.std.specs.Prelude.{slice_get, not, nat_le, nat_lt, ◌&&◌, ◌||◌, bit_and}
-use Rattle.std.proofs.lemmas.Bool.{cases_Bool, cases_lt, and_parts, and_left, and_right, leb-true, le-leb, le-ltb, lt-leb}
-use Rattle.std.proofs.lemmas.List.{take_all}
+use Rattle.std.proofs.lemmas.Bool.{cases_lt, and_left, and_right, leb-true, le-leb, le-ltb, lt-leb}
 use Rattle.std.proofs.lemmas.Option.{same_Some}
 use Rattle.avr_reloc.specs.Field.{AreBytes, keep_of}
 use Rattle.avr_reloc.specs.Kind.{shape_of}
 use Rattle.component_package.specs.declared.part.Reloc.{Reloc}
 use Rattle.component_package.specs.packages.Component.{Component}
 use Rattle.component_package.specs.packages.Grammar.{IsComponent, IsReloc, RelocsRise, position_in}
-use Rattle.component_package.specs.packages.Reading.{reloc_end, reloc_width, list_of}
+use Rattle.component_package.specs.packages.Reading.{reloc_end, reloc_width}
 use Rattle.component_package.proofs.InGrammar.{widths}
 use Rattle.component_package.proofs.Lists.{all_at}
-use Rattle.kept_definitions.specs.Runs.{is_in_part, has_field_at, bits_kept}
-use Rattle.kept_code.specs.Clear.{AreOfComponent, cleared_from}
+use Rattle.kept_definitions.specs.Runs.{has_field_at, bits_kept}
+use Rattle.kept_code.specs.Clear.{cleared_from}
 use Rattle.kept_code.proofs.Cleared.{none_cleared, next_cleared}
 use Rattle.kept_manifests.proofs.Numbered.{list_of_same}
 use Rattle.kept_store.specs.Fields.{is_before, is_past, AreBefore}

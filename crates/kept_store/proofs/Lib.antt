@@ -6,3 +6,7 @@ pub mod ComingLemmas
 pub mod RecordLemmas
 pub mod FieldLemmas
 pub mod PartLemmas
+pub mod RunLemmas
+pub mod TableLemmas
+pub mod TableRuns
+pub mod GoingLemmas

@@ -1,8 +1,8 @@
 -- Bytes of a part of a component, in its package or in program flash.
-use Rattle.std.proofs.Common.{◌≡◌, inl, inr, ℕ, ◌+◌, ◌-◌, ◌*◌, ◌/◌, ◌%◌, ◌<◌, ◌≤◌, Bool, true, false, cond, All, List, [], ◌∷◌, ◌++◌, length, take, drop, get_or, refl, sym, ap, ap₂, subst, ◌∙◌, arith, slice_range, length-append, append_assoc}
-use Rattle.std.specs.Prelude.{slice_get, bit_and}
+use Rattle.std.proofs.Common.{◌≡◌, ℕ, ◌+◌, ◌-◌, ◌*◌, ◌/◌, ◌%◌, ◌<◌, ◌≤◌, Bool, true, false, cond, All, List, [], ◌++◌, length, take, drop, get_or, refl, sym, ap, ap₂, subst, ◌∙◌, arith}
+use Rattle.std.proofs.Common.{slice_range, length-append, append_assoc}
+use Rattle.std.specs.Prelude.{bit_and}
 use Rattle.std.specs.List.{concat, flat_map}
-use Rattle.std.proofs.lemmas.Bool.{cases_Bool}
 use Rattle.std.proofs.lemmas.List.{take-append-le, drop-append-le, drop-drop, length-drop, length-take-le, get_or-take, get_or-drop}
 use Rattle.std.proofs.lemmas.List.FromFn.{get_or-map-range_with_len}
 use Rattle.std.proofs.lemmas.Slice.{take-put_mid}
@@ -20,7 +20,6 @@ use Rattle.component_package.proofs.StoredLemmas.{take_further, bytes_joined}
 use Rattle.component_store.specs.Sets.{length_of_part, part_of}
 use Rattle.mote_laws.proofs.Invariant.{bytes_take, bytes_drop}
 use Rattle.kept_definitions.specs.Runs.{bits_kept, part_from}
-use Rattle.kept_definitions.specs.Kept.{inbox_of}
 use Rattle.kept_code.specs.Clear.{cleared_from}
 use Rattle.kept_code.proofs.Cleared.{filled}
 use Rattle.kept_store.specs.declared.set.StoredSet.{StoredSet}

@@ -1,5 +1,5 @@
 -- The run of a component, in a table slot or in its package.
-use Rattle.std.proofs.Common.{◌≡◌, inl, inr, ℕ, ◌+◌, ◌-◌, ◌*◌, ◌<◌, ◌≤◌, Bool, true, false, cond, Option, Some, None, Ok, List, [], ◌∷◌, ◌++◌, length, take, drop, get_or, refl, sym, ap, ap₂, subst, ◌∙◌, arith, slice_range, length-append, append_assoc}
+use Rattle.std.proofs.Common.{◌≡◌, inl, inr, ℕ, ◌+◌, ◌-◌, ◌*◌, ◌<◌, ◌≤◌, Bool, cond, Some, None, Ok, List, [], ◌++◌, length, take, drop, get_or, sym, ap, ap₂, subst, ◌∙◌, arith, slice_range, length-append, append_assoc}
 use Rattle.std.specs.Prelude.{slice_get}
 use Rattle.std.specs.List.{flat_map}
 use Rattle.std.proofs.lemmas.Bool.{cases_Bool}
@@ -15,13 +15,11 @@ use Rattle.component_package.specs.packages.Component.{Component, header_bytes, 
 use Rattle.component_package.specs.packages.Grammar.{IsComponent}
 use Rattle.component_package.specs.packages.Reading.{header_of, header_of_component, exports_at, relocs_at, total_of, export_fault, symbol_before, raw_export, export_of, check_export_of, reloc_fault, reloc_before, raw_reloc, raw_field, reloc_of, check_reloc_of}
 use Rattle.component_package.proofs.Lists.{slice_get-list_of}
-use Rattle.component_package.proofs.ReadAgain.{header_again, length-spelling, spelling_said, spelling_faultless}
+use Rattle.component_package.proofs.ReadAgain.{header_again, spelling_said, spelling_faultless}
 use Rattle.component_package.proofs.Spelled.{faultless}
 use Rattle.component_store.specs.Sets.{IsHeaderOf}
 use Rattle.component_store.proofs.PartLemmas.{export_alone, reloc_alone, no_field}
 use Rattle.kept_definitions.specs.Runs.{run_of, run_length}
-use Rattle.kept_definitions.specs.Kept.{inbox_of, tables_of}
-use Rattle.kept_laws.specs.Laws.{Begins}
 use Rattle.kept_laws.proofs.Reading.{length-run}
 use Rattle.kept_manifests.specs.Slots.{no_entry}
 use Rattle.kept_store.specs.declared.set.StoredSet.{StoredSet}

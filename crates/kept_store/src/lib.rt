@@ -10,12 +10,16 @@ mod open;
 mod parts;
 mod places;
 mod records;
+mod runs;
 mod set;
 mod slots;
+mod tables;
 
 pub use current::open_current;
 pub use open::open_set;
 pub use parts::part_bytes;
 pub use records::{export_at, read_reloc, reloc_at};
+pub use runs::table_bytes;
 pub use set::StoredSet;
 pub use slots::{is_held, slot_for};
+pub use tables::keep_tables;

@@ -17,12 +17,7 @@ use external_flash::PageReader;
 use flash_pages::{Board, Failed};
 
 // Bytes of one page of program flash, from byte `at` of it on.
-fn page_bytes<B: Board>(
-    board: &mut B,
-    page: u16,
-    at: usize,
-    into: &mut [u8],
-) -> Result<(), Failed>
+fn page_bytes<B: Board>(board: &mut B, page: u16, at: usize, into: &mut [u8]) -> Result<(), Failed>
     requires page { page < 480 }
     requires within { at + length into.old ≤ 256 }
     ensures ok { OnOk result (Told (B.view board.old) (λ s.
@@ -56,12 +51,7 @@ fn flash_bytes<B: Board>(board: &mut B, from: u32, into: &mut [u8]) -> Result<()
 }
 
 // Bytes of external flash from page `first` on, from byte `from` on, by one reader.
-fn slot_bytes<B: Board>(
-    board: &mut B,
-    first: u16,
-    from: u32,
-    into: &mut [u8],
-) -> Result<(), Failed>
+fn slot_bytes<B: Board>(board: &mut B, first: u16, from: u32, into: &mut [u8]) -> Result<(), Failed>
     requires within { 256 * first + from + length into.old ≤ 256 * 2048 }
     ensures ok { OnOk result (Told (B.view board.old) (λ s.
         into.new ≡ take (length into.old) (drop from (bytes_from first s)))) }

@@ -76,11 +76,12 @@ pub(crate) fn slot_page(set: &StoredSet, k: u8) -> u16
     TABLES + SLOT_PAGES * slot
 }
 
-// The byte of that slot at which its exports begin: behind code and data in a package, and behind the header in a run.
-fn records_at(set: &StoredSet, k: u8) -> u32
+/// The byte of that slot at which its exports begin: behind code and data in a package, and behind the header in a run.
+pub(crate) fn records_at(set: &StoredSet, k: u8) -> u32
     requires set { IsSet set.now }
     requires component { k < set.now.slots.manifest.count }
     ensures at { result ≡ records_at set.now k }
+    ensures behind { 32 ≤ result }
     ensures room { result + run_length (header_at set.now k) ≤ 9984 + 32 }
 {
     has_rooms(set);

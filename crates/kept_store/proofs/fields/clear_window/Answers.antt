@@ -1,11 +1,10 @@
-use Rattle.std.proofs.Common.{◌≡◌, ℕ, ◌+◌, ◌<◌, ◌≤◌, List, [], ◌∷◌, length, take, refl, sym, ap, subst, ◌∙◌, arith}
+use Rattle.std.proofs.Common.{◌≡◌, List, [], ◌∷◌, length, take, refl, sym, ap, ◌∙◌, arith}
 use Rattle.std.proofs.lemmas.List.{take_all}
 use Rattle.flash_pages.proofs.Runs.{reads_reads}
 use Rattle.component_package.specs.declared.part.Header.{Header}
 use Rattle.component_package.specs.declared.part.Reloc.{Reloc}
 use Rattle.kept_code.specs.Clear.{cleared_from}
 use Rattle.kept_code.proofs.Cleared.{length-cleared}
-use Rattle.kept_store.specs.Fields.{is_past}
 use Rattle.kept_store.proofs.FieldLemmas.{starts_cleared, ends_cleared, more_cleared}
 use Rattle.kept_store.proofs.fields.clear_window.Goals as goal
 

@@ -1,4 +1,4 @@
-use Rattle.std.proofs.Common.{◌≡◌, ◌≤◌, Some, length, take}
+use Rattle.std.proofs.Common.{◌≡◌, Some, length, take}
 use Rattle.flash_pages.specs.State.{State, AreBytes}
 use Rattle.flash_pages.specs.Board.{Reads}
 use Rattle.external_flash.specs.Readers.{Keeps}

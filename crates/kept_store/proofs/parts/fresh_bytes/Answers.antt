@@ -1,4 +1,4 @@
-use Rattle.std.proofs.Common.{◌≡◌, ℕ, ◌+◌, ◌≤◌, cond, length, take, drop, sym, ap₂, subst, ◌∙◌, arith}
+use Rattle.std.proofs.Common.{◌≡◌, ℕ, ◌+◌, ◌≤◌, cond, length, take, drop, ap₂, subst, ◌∙◌, arith}
 use Rattle.external_flash.specs.Areas.{bytes_from}
 use Rattle.component_store.specs.Sets.{length_of_part}
 use Rattle.kept_store.specs.Sets.{header_at}
