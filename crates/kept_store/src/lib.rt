@@ -5,6 +5,7 @@
 #![tactic(auto)]
 
 mod current;
+mod exports;
 mod fields;
 mod open;
 mod parts;
@@ -16,6 +17,7 @@ mod slots;
 mod tables;
 
 pub use current::open_current;
+pub use exports::exports_at;
 pub use open::open_set;
 pub use parts::part_bytes;
 pub use records::{export_at, read_reloc, reloc_at};

@@ -1,0 +1,16 @@
+pub mod Elements
+pub mod CursorLemmas
+pub mod HeldSet
+pub mod Exports
+pub mod Choice
+pub mod WalkLemmas
+pub mod Tables
+pub mod Walked
+pub mod Areas
+pub mod Duplicates
+pub mod Answered
+pub mod Filled
+pub mod Changed
+pub mod Merged
+pub mod Found
+pub mod Readers
