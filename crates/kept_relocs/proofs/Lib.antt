@@ -1,0 +1,10 @@
+pub mod Entries
+pub mod First
+pub mod Held
+pub mod Written
+pub mod Coming
+pub mod Only
+pub mod Causes
+pub mod Listing
+pub mod Linkable
+pub mod Steps

@@ -1,0 +1,4 @@
+pub mod List
+pub mod Order
+pub mod Written
+pub mod Value
