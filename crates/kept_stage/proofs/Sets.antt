@@ -1,12 +1,10 @@
 -- A set that a board holds, and the pages of its image.
-use Rattle.std.proofs.Common.{◌≡◌, ℕ, ◌+◌, ◌-◌, ◌<◌, ◌≤◌, inl, inr, ◌^◌, Bool, true, false, Option, Some, None, List, [], length, take, drop, get_or, replicate, refl, sym, ap, ◌∙◌, subst, arith, length-append}
-use Rattle.std.specs.Prelude.{slice_get}
+use Rattle.std.proofs.Common.{◌≡◌, ℕ, ◌+◌, ◌-◌, ◌<◌, ◌≤◌, inl, inr, ◌^◌, Bool, true, false, Some, List, [], length, take, drop, get_or, replicate, refl, sym, ap, ◌∙◌, subst, arith, length-append}
 use Rattle.std.specs.List.{flat_map}
 use Rattle.std.proofs.lemmas.Bool.Decides.{nat_tests}
-use Rattle.std.proofs.lemmas.List.{length-map, length-replicate, length-take-le, length-drop, get_or-take, get_or-drop, get_or_default, same_lists}
+use Rattle.std.proofs.lemmas.List.{length-replicate, length-take-le, length-drop, get_or-take, get_or-drop, get_or_default, same_lists}
 use Rattle.std.proofs.lemmas.List.FromFn.{length-map-range_with_len, get_or-map-range_with_len}
 use Rattle.std.proofs.lemmas.List.Sums.{sum_by-take-le}
-use Rattle.std.proofs.lemmas.Option.{slice_get-get_or}
 use Rattle.flash_pages.specs.State.{State, Ext, MayHold, with_page, ext_pages}
 use Rattle.flash_pages.specs.Board.{View}
 use Rattle.flash_pages.proofs.Pages.{only_starts, only_programs}
@@ -17,20 +15,18 @@ use Rattle.component_package.specs.link.Link.{rooms_of, plain_of}
 use Rattle.component_package.specs.link.Areas.{Lists}
 use Rattle.component_package.specs.link.Pages.{padded, page_in}
 use Rattle.component_store.specs.Sets.{part_of, length_of_part}
-use Rattle.kept_definitions.specs.Kept.{inbox_of, tables_of}
 use Rattle.kept_definitions.specs.Sides.{Parts, parts_of}
-use Rattle.kept_laws.specs.Held.{IsReadable}
 use Rattle.kept_laws.proofs.Programs.{each_page_is_in_one_part}
-use Rattle.kept_manifests.specs.Slots.{place_of}
 use Rattle.layout_plan.specs.declared.plan.Plan.{Plan}
 use Rattle.link_laws.proofs.Room.{plain_length}
 use Rattle.kept_store.specs.declared.set.StoredSet.{StoredSet}
 use Rattle.kept_store.specs.Sets.{IsSet, HoldsSet, IsComponentOf, header_at}
 use Rattle.kept_store.specs.Open.{HasRooms}
-use Rattle.kept_symbols.specs.Stored.{stored_rooms, header_room, IsPlanOf}
-use Rattle.kept_symbols.proofs.HeldSet.{held_set}
+use Rattle.kept_symbols.specs.Stored.{stored_rooms, IsPlanOf}
 use Rattle.kept_relocs.specs.List.{list_area, KeepsList}
 use Rattle.kept_relocs.specs.declared.list.ListReader.{ListReader}
+use Rattle.kept_relocs.proofs.Held.{rooms_are, plan_count}
+use Rattle.kept_relocs.proofs.Only.{same_parts_hold}
 use Rattle.kept_relocs.proofs.Written.{HoldsFirst}
 use Rattle.kept_stage.specs.Staged.{ArePagesOf, HasStaged, OnlyStaged, staged_pages}
 use Rattle.kept_stage.proofs.Parts.{base_is, total_is}
@@ -42,26 +38,9 @@ pub part_long : (s : State) (set : StoredSet) (k : ℕ) (c : Component) (in_init
 part_long s set k c true is = ap (λ (h : Header). h.init) (sym is.header)
 part_long s set k c false is = ap (λ (h : Header). h.code) (sym is.header)
 
--- component k of a set that a board holds
-pub record SomeComponent (s : State) (set : StoredSet) (components : List Component) (k : ℕ) : Type 0 where
-  pub it : Component
-  pub here : slice_get components k ≡ Some it
-  pub is : IsComponentOf s set k it
-
-pub component_at : (s : State) (set : StoredSet) (components : List Component) (k : ℕ) → HoldsSet s set components → k < set.slots.manifest.count → SomeComponent s set components k
-component_at s set components k holds lt = some (slice_get components k) refl
-  where
-    none : Component
-    none = record { component = 0; version = 0; code = []; init = []; bss = 0; exports = []; relocs = [] }
-
-    some : (o : Option Component) → slice_get components k ≡ o → SomeComponent s set components k
-    some (Some c) e = record { it = c; here = e; is = holds.each k c e }
-    some None e = absurd (let there = sym (slice_get-get_or components k none (omega (arith, holds.count, lt))) ∙ e in cc)
-
 module _ (set : StoredSet) (p : Plan) (is : IsSet set) (rooms : HasRooms set) (plan : IsPlanOf set p) where
   rooms_count : length (stored_rooms set) ≡ set.slots.manifest.count
-  rooms_count =
-      length-map (take set.slots.manifest.count set.headers) header_room ∙ length-take-le set.slots.manifest.count set.headers (omega (arith, is.manifest.count, rooms.headers))
+  rooms_count = sym plan.plan.count ∙ plan_count set p is rooms plan
 
   -- bases are small
   pub code_small : (k : ℕ) → k < set.slots.manifest.count → get_or p.code k 0 < 2 ^ 24
@@ -74,7 +53,7 @@ module _ (set : StoredSet) (p : Plan) (is : IsSet set) (rooms : HasRooms set) (p
 
   module _ (s : State) (components : List Component) (holds : HoldsSet s set components) where
     same_rooms : stored_rooms set ≡ rooms_of components
-    same_rooms = sym (held_set s set components is rooms holds).rooms
+    same_rooms = sym (rooms_are s set components is rooms holds)
 
     -- where a component's code begins
     pub code_at : (k : ℕ) → k < set.slots.manifest.count → get_or p.code k 0 ≡ length (flat_map (λ c. c.code) (take k components))
@@ -127,24 +106,10 @@ list_reader_stayed s x r only keeps small =
     let outside : ext_pages 306 785 (Ext (50 + r.page)) ≡ false = grind (arith, nat_tests) in
     keeps small ∙ only.pages.page (Ext (50 + r.page)) outside
 
--- program flash, the inbox and the tables stay, and with them each component
-component_stays : (s x : State) (set : StoredSet) (k : ℕ) (c : Component) → OnlyStaged s x → IsComponentOf s set k c → IsComponentOf x set k c
-component_stays s x set k c only is =
-    let p = place_of set.slots k in
-    let code : ℕ = get_or set.code_at k 0 in
-    let init : ℕ = get_or set.init_at k 0 in
-    let prog : s.prog ≡ x.prog = sym (ap (λ (p : Parts). p.prog) only.parts) in
-    let tables : tables_of s.ext ≡ tables_of x.ext = sym (ap (λ (p : Parts). p.tables) only.parts) in
-    let inbox : inbox_of s.ext ≡ inbox_of x.ext = sym (ap (λ (p : Parts). p.inbox) only.parts) in
-    record {
-      readable = subst (λ (b : List (List ℕ)). IsReadable x.prog (tables_of x.ext) b p code init c) inbox
-          (subst (λ (b : List (List ℕ)). IsReadable x.prog b (inbox_of s.ext) p code init c) tables
-          (subst (λ (b : List (List ℕ)). IsReadable b (tables_of s.ext) (inbox_of s.ext) p code init c) prog is.readable));
-      header = is.header;
-    }
-
+-- program flash, the inbox and the tables stay, and with them the set
 pub set_stays : (s x : State) (set : StoredSet) (components : List Component) → OnlyStaged s x → HoldsSet s set components → HoldsSet x set components
-set_stays s x set components only holds = record { count = holds.count; each = λ k c here. component_stays s x set k c only (holds.each k c here) }
+set_stays s x set components only holds =
+    same_parts_hold s x set components (ap (λ (p : Parts). p.prog) only.parts) (ap (λ (p : Parts). p.tables) only.parts) (ap (λ (p : Parts). p.inbox) only.parts) holds
 
 -- and so do the pages that are to be
 pub pages_stay : (s x : State) (set : StoredSet) (pages : List (List ℕ)) → OnlyStaged s x → ArePagesOf s set pages → ArePagesOf x set pages

@@ -4,9 +4,10 @@ use Rattle.std.proofs.lemmas.List.{take_all, append-nil}
 use Rattle.flash_pages.proofs.Runs.{reads_reads}
 use Rattle.component_package.specs.packages.Component.{Component}
 use Rattle.component_store.proofs.Calls.{reads_none}
+use Rattle.kept_relocs.proofs.Held.{component_at}
 use Rattle.kept_stage.specs.Windows.{Shows}
 use Rattle.kept_stage.proofs.Parts.{part_at, shows_more, blank_page}
-use Rattle.kept_stage.proofs.Sets.{component_at, code_at, load_at}
+use Rattle.kept_stage.proofs.Sets.{code_at, load_at}
 use Rattle.kept_stage.proofs.plain.plain_page.Goals as goal
 
 pub loop-k-init : goal.loop-k-init
@@ -28,12 +29,12 @@ loop-k-preserved g c = record {
   shows = λ s told components holds.
       let set = c.args.set.now in
       let k : ℕ = c.loop-k.k in
-      let comp = component_at s set components k holds c.loop-k-test.true in
+      let comp = component_at components k (omega (arith, holds.count, c.loop-k-test.true)) in
       let at = part_at (λ c. c.code) components k comp.it comp.here in
       subst (λ (b : List ℕ). Shows c.args.base b c.copy_part.new.into) (sym at.more)
       (shows_more (flat_map (λ c. c.code) (take k components)) comp.it.code c.loop-k.into c.copy_part.new.into c.args.base _
       (code_at set c.args.plan.now c.requires.set c.rooms.ensures c.requires.plan s components holds k c.loop-k-test.true)
-      (c.loop-k.invariant.shows s told components holds) (c.in-Ok.ensures.bytes s (c.loop-k.invariant.reads.state ∙ told) comp.it comp.is));
+      (c.loop-k.invariant.shows s told components holds) (c.in-Ok.ensures.bytes s (c.loop-k.invariant.reads.state ∙ told) comp.it (holds.each k comp.it comp.here)));
 }
 
 pub loop-k-2-init : goal.loop-k-2-init
@@ -58,7 +59,7 @@ loop-k-2-preserved g c = record {
   shows = λ s told components holds.
       let set = c.args.set.now in
       let k : ℕ = c.loop-k-2.k in
-      let comp = component_at s set components k holds c.loop-k-2-test.true in
+      let comp = component_at components k (omega (arith, holds.count, c.loop-k-2-test.true)) in
       let at = part_at (λ c. c.init) components k comp.it comp.here in
       let code : List ℕ = flat_map (λ c. c.code) components in
       let front : List ℕ = flat_map (λ c. c.init) (take k components) in
@@ -66,7 +67,7 @@ loop-k-2-preserved g c = record {
       subst (λ (b : List ℕ). Shows c.args.base b c.copy_part-in-loop-k-2.new.into) more
       (shows_more (code ++ front) comp.it.init c.loop-k-2.into c.copy_part-in-loop-k-2.new.into c.args.base _
       (load_at set c.args.plan.now c.requires.set c.rooms.ensures c.requires.plan s components holds k c.loop-k-2-test.true ∙ sym (length-append code front))
-      (c.loop-k-2.invariant.shows s told components holds) (c.in-Ok-copy_part.ensures.bytes s (c.loop-k-2.invariant.reads.state ∙ told) comp.it comp.is));
+      (c.loop-k-2.invariant.shows s told components holds) (c.in-Ok-copy_part.ensures.bytes s (c.loop-k-2.invariant.reads.state ∙ told) comp.it (holds.each k comp.it comp.here)));
 }
 
 pub returns-clause-shows : goal.returns-clause-shows

@@ -2,7 +2,7 @@ use Rattle.std.proofs.Common.{◌≡◌, ℕ, ◌+◌, ◌*◌, List, sym, ◌�
 use Rattle.flash_pages.proofs.Runs.{reads_reads}
 use Rattle.component_package.specs.link.Link.{plain_of}
 use Rattle.link_laws.proofs.Own.{plain_bytes}
-use Rattle.kept_symbols.proofs.HeldSet.{held_set}
+use Rattle.kept_relocs.proofs.Linkable.{linkable}
 use Rattle.kept_stage.specs.Windows.{ArePassed}
 use Rattle.kept_stage.proofs.Parts.{shows_padded}
 use Rattle.kept_stage.proofs.Window.{page_of_whole}
@@ -28,7 +28,7 @@ returns-clause-page g c = λ s told keeps starts pages are.
     let whole : List ℕ = are.patched.whole in
     let base : ℕ = 256 * c.args.page in
     let few = plain_fits set c.args.plan.now c.requires.set c.rooms.ensures c.requires.plan s S are.held in
-    let bytes = plain_bytes S (held_set s set S c.requires.set c.rooms.ensures are.held).is.components in
+    let bytes = plain_bytes S (linkable s set S c.requires.set are.held).components in
     let shows = shows_padded plain c.plain_page.new.into base (omega (arith, c.requires.page)) (c.in-Ok.ensures.shows s told S are.held) in
     let each = c.in-Ok-patch_page.ensures.page s (c.plain_page.ensures.reads.state ∙ told) keeps are.list plain whole are.lists (starts are.list are.lists) are.fits bytes are.patched.bytes
     are.patched.put shows in
