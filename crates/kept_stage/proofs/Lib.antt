@@ -1,0 +1,3 @@
+pub mod Window
+pub mod Parts
+pub mod Sets
