@@ -1,0 +1,10 @@
+pub mod Reading
+pub mod Sending
+pub mod Serving
+pub mod Wear
+pub mod Frames
+pub mod Links
+pub mod Running
+pub mod Commands
+pub mod Format
+pub mod Top
