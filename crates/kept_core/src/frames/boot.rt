@@ -9,9 +9,9 @@ ghost use Rattle.kept_journal.specs.Steps.{parts};
 ghost use Rattle.kept_core.specs.Serving.{LeavesWork, DoesWork, TellsFormatted, StaysFormatted};
 ghost use Rattle.kept_core.specs.Wear.{WearsWork};
 
-use kept_boot::{BootFault, boot};
 use component_package::Answer;
 use flash_pages::{Board, Failed};
+use kept_boot::{BootFault, boot};
 
 /// Starts the chosen release.
 pub(crate) fn serve_boot<B: Board>(board: &mut B) -> Result<Answer, Failed>
