@@ -1,5 +1,5 @@
 -- END is the one frame that has the answer of an end.
-use Rattle.std.proofs.Common.{[], ◌≡◌, ℕ, Bool, true, false, not, cond, eqb, ltb, List, length, drop, Option, Some, None, is_some, refl, slice_get, arith}
+use Rattle.std.proofs.Common.{[], ◌≡◌, ℕ, Bool, true, false, not, cond, eqb, ltb, List, length, drop, Option, Some, None, refl, slice_get, arith}
 use Rattle.std.specs.Prelude.{slice_index, slice_index_or, slice_range}
 use Rattle.std.proofs.lemmas.Bool.Decides.{nat_tests}
 use Rattle.component_package.specs.declared.answer.Answer.TheVariants.{Ended}

@@ -11,7 +11,7 @@ use Rattle.component_package.specs.declared.answer.Answer.{Answer}
 use Rattle.component_package.specs.declared.answer.Answer.TheVariants as answers
 use Rattle.kept_definitions.specs.Stored.{StoredRelease, Stores}
 use Rattle.kept_manifests.specs.Slots.{stored_of}
-use Rattle.component_package.specs.link.Link.{Undefined, Range, IsLate, link_cause, rooms_of, room_cause, symbols_cause, relocations_cause, sites_cause}
+use Rattle.component_package.specs.link.Link.{Undefined, Range, IsLate, link_cause, sites_cause}
 use Rattle.component_package.specs.packages.Component.{Component}
 use Rattle.component_package.specs.link.Areas.{MergedSymbol, Tells, Lists}
 use Rattle.component_package.specs.link.Pages.{IsTableOf, listed, IsPages}

@@ -1,7 +1,7 @@
 -- The set that comes in, opened over the installed one.
 use Rattle.std.proofs.Common.{◌≡◌, ℕ, ◌<◌, ◌≤◌, Bool, true, false, cond, inl, inr, List, [], ◌∷◌, length, map, get_or, Option, Some, None, is_some, refl, sym, ap, ap₂, ◌∙◌, subst, arith}
 use Rattle.std.specs.Prelude.{find, not, unwrap_or, ◌++◌}
-use Rattle.std.specs.List.{AllByRecursion, zip, flat_map}
+use Rattle.std.specs.List.{AllByRecursion, zip}
 use Rattle.std.specs.Option.{option_map}
 use Rattle.std.proofs.lemmas.Bool.{cases_Bool}
 use Rattle.std.proofs.lemmas.List.Concat.{flat_map-cons}
@@ -13,8 +13,8 @@ use Rattle.component_package.specs.packages.Reading.{component_of}
 use Rattle.component_package.specs.packages.Manifest.{Release, IsManifestEntry}
 use Rattle.component_package.specs.mote.Store.{SetFault as Fault, is_same_entry}
 use Rattle.kept_definitions.specs.Stored.{Placed, StoredRelease, IsStored, Stores}
-use Rattle.kept_definitions.specs.Kept.{Chosen, inbox_of, tables_of, held_component, package_in, coming_component, coming_set, HasComing, set_fault, held_slot, slot_list, held_slots, least_free, place, placed_from, slots_for}
-use Rattle.kept_definitions.specs.Sides.{Parts, chosen_side, is_pending, kept_set, going_set}
+use Rattle.kept_definitions.specs.Kept.{inbox_of, tables_of, held_component, package_in, coming_component, coming_set, HasComing, set_fault, held_slot, slot_list, held_slots, least_free, place, placed_from, slots_for}
+use Rattle.kept_definitions.specs.Sides.{chosen_side, is_pending, kept_set, going_set}
 use Rattle.kept_definitions.specs.Machine.{Mote}
 use Rattle.kept_laws.specs.Laws.{AreAll, IsPackageOf, IsOver}
 use Rattle.kept_laws.specs.Held.{installed}
@@ -27,7 +27,7 @@ use Rattle.kept_manifests.specs.Slots.{stored_of}
 use Rattle.kept_store.specs.declared.set.StoredSet.{StoredSet}
 use Rattle.kept_store.specs.Sets.{HoldsSet, HasInstalled, IsSlotFor, at_rest, chosen_of}
 use Rattle.kept_store.proofs.RestLemmas.{sound_installed}
-use Rattle.kept_journal.specs.Steps.{parts, Stands}
+use Rattle.kept_journal.specs.Steps.{parts}
 use Rattle.kept_core.specs.Links.{Opens, IsLinking}
 use Rattle.kept_core.proofs.Below.{mote_is}
 

@@ -1,4 +1,4 @@
-use Rattle.std.proofs.Common.{◌∙◌, sym, ap, List, ℕ, get_or, []}
+use Rattle.std.proofs.Common.{◌∙◌, sym, ap, ℕ, get_or, []}
 use Rattle.external_flash.specs.Gates.{closed_page}
 use Rattle.kept_laws.specs.Formatted.{formatted_ext}
 use Rattle.kept_core.proofs.Emptying.{page_eight, page_zero}

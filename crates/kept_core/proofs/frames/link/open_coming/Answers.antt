@@ -1,9 +1,7 @@
-use Rattle.std.proofs.Common.{ℕ, List, Err, refl, sym, ap, ◌∙◌, subst}
-use Rattle.component_package.specs.packages.Component.{Component}
-use Rattle.component_store.specs.declared.set.SetFault.{SetFault}
-use Rattle.component_store.specs.Sets.{SetFaultIs, is_set_fault}
+use Rattle.std.proofs.Common.{Err, refl, sym, ◌∙◌, subst}
+use Rattle.component_store.specs.Sets.{SetFaultIs}
 use Rattle.flash_pages.proofs.Runs.{reads_reads}
-use Rattle.kept_definitions.specs.Kept.{tables_of, inbox_of, set_fault}
+use Rattle.kept_definitions.specs.Kept.{tables_of}
 use Rattle.kept_definitions.specs.Sides.{kept_set}
 use Rattle.kept_manifests.specs.Slots.{stored_of}
 use Rattle.kept_store.specs.declared.set.StoredSet.{StoredSet}

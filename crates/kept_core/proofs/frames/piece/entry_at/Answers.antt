@@ -1,4 +1,4 @@
-use Rattle.std.proofs.Common.{◌≡◌, length, rules, arith}
+use Rattle.std.proofs.Common.{arith}
 use Rattle.kept_manifests.specs.Slots.{place_of, stored_of}
 use Rattle.component_package.proofs.Lists.{length-list_of}
 use Rattle.component_package.proofs.StoredLemmas.{element_past}

@@ -5,7 +5,6 @@ use Rattle.std.proofs.lemmas.List.{take_rest}
 use Rattle.flash_pages.specs.State.{with_page, ext_pages}
 use Rattle.component_package.specs.mote.Page.{filled_page}
 use Rattle.component_package.specs.declared.answer.Answer.TheVariants.{Reboot, NoManifest, BadPiece}
-use Rattle.kept_definitions.specs.Stored.{StoredRelease}
 use Rattle.kept_manifests.specs.Slots.{stored_of}
 use Rattle.component_store.specs.Pieces.{piece_fault, piece_place}
 use Rattle.component_store.proofs.SlotBytes.{page_below}
