@@ -1,10 +1,10 @@
 -- Runs that are brought into table slots, one after another.
-use Rattle.std.proofs.Common.{◌≡◌, ◌≢◌, inl, inr, ℕ, zero, suc, ◌+◌, ◌*◌, ◌<◌, ◌≤◌, Bool, true, false, cond, List, [], ◌∷◌, ◌++◌, Some, length, set, refl, sym as flip, ap, ◌∙◌, subst, arith}
-use Rattle.std.specs.Prelude.{IsTrue, ◌==◌, ◌&&◌, ◌||◌, map, slice_get, slice_index, slice_index_or}
-use Rattle.std.specs.List.{list_any, range_with_len}
-use Rattle.std.proofs.lemmas.Bool.{false≢true, cases_Bool, cases_eq, cases_lt}
+use Rattle.std.proofs.Common.{◌≡◌, ◌≢◌, inl, inr, ℕ, zero, suc, ◌+◌, ◌*◌, ◌<◌, Bool, true, false, cond, List, [], ◌∷◌, ◌++◌, Some, length, set, refl, sym as flip, ap, ◌∙◌, subst, arith}
+use Rattle.std.specs.Prelude.{IsTrue, ◌==◌, ◌&&◌, ◌||◌, map, slice_get, slice_index_or}
+use Rattle.std.specs.List.{list_any}
+use Rattle.std.proofs.lemmas.Bool.{false≢true, cases_lt}
 use Rattle.std.proofs.lemmas.List.FromFn.{length-map-range_with_len}
-use Rattle.flash_pages.specs.State.{State, Place, Prog, Ext, OnlyPages}
+use Rattle.flash_pages.specs.State.{State, Place}
 use Rattle.flash_pages.specs.Board.{View, WearsOnce}
 use Rattle.flash_pages.specs.Moments.{LeavesOnly}
 use Rattle.flash_pages.proofs.Runs.{weaker}
@@ -28,8 +28,8 @@ use Rattle.kept_manifests.specs.declared.pages.SlotManifest.{SlotManifest}
 use Rattle.kept_manifests.specs.Slots.{IsSlotManifest, place_of, stored_of}
 use Rattle.kept_store.proofs.OpenLemmas.{entry_here}
 use Rattle.kept_store.proofs.RestLemmas.{slot_low}
-use Rattle.kept_journal.specs.Steps.{parts, Stands, Step, Takes, Pends}
-use Rattle.kept_journal.proofs.Takes.{keeps_same, takes_none, takes_more, takes_takes}
+use Rattle.kept_journal.specs.Steps.{parts, Stands, Step, Takes}
+use Rattle.kept_journal.proofs.Takes.{takes_none, takes_more, takes_takes}
 use Rattle.kept_store.specs.Tables.{with_run, table_pages, FitsSlot, KeepsRun, OnlyTable}
 use Rattle.kept_boot.specs.Boots.{one_run, with_runs, one_table, fresh_tables, Installs}
 use Rattle.kept_boot.specs.Bringing.{KeepsOne, Brings}

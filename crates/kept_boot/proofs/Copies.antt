@@ -1,5 +1,5 @@
 -- What a copy of the staged image has made after some pages.
-use Rattle.std.proofs.Common.{◌≡◌, inl, inr, ℕ, ◌+◌, ◌<◌, ◌≤◌, true, Some, List, [], ◌∷◌, ◌++◌, length, get_or, set, take, drop, refl, sym as flip, ◌∙◌, ap, subst, arith, append_assoc, length-drop}
+use Rattle.std.proofs.Common.{◌≡◌, inl, inr, ℕ, ◌+◌, ◌<◌, true, Some, List, [], ◌∷◌, ◌++◌, length, get_or, set, take, drop, refl, sym as flip, ◌∙◌, ap, subst, arith, append_assoc, length-drop}
 use Rattle.std.proofs.lemmas.List.{set_at, drop_more, take_more, take_all, drop_all, append-nil, get_or-take, get_or-drop, length-take-le}
 use Rattle.flash_pages.specs.State.{State, IsState, MayHold, Prog, Ext, page_at, with_page}
 use Rattle.flash_pages.specs.Board.{View, Programs}

@@ -1,17 +1,16 @@
 -- The package of a fresh entry fits its inbox slot, where its release is being installed.
-use Rattle.std.proofs.Common.{◌≡◌, inl, inr, ℕ, zero, suc, ◌+◌, ◌-◌, ◌≤◌, Bool, true, false, cond, List, [], ◌++◌, Some, length, take, drop, get_or, refl, sym as flip, ap, ◌∙◌, subst, arith, slice_range, length-append, take-append-drop}
+use Rattle.std.proofs.Common.{◌≡◌, inl, inr, ℕ, zero, suc, ◌-◌, ◌≤◌, Bool, true, cond, List, [], ◌++◌, Some, length, take, drop, get_or, refl, sym as flip, ap, ◌∙◌, subst, arith, slice_range}
 use Rattle.std.specs.Prelude.{slice_get}
 use Rattle.std.proofs.lemmas.Bool.{cases_lt}
 use Rattle.std.proofs.lemmas.List.{take_at, drop_all, length-take, append-nil}
 use Rattle.flash_pages.specs.State.{State}
 use Rattle.component_package.specs.declared.part.Header.{Header}
-use Rattle.component_package.specs.packages.Component.{Component, spelling}
+use Rattle.component_package.specs.packages.Component.{Component}
 use Rattle.component_package.specs.packages.Reading.{header_of, header_of_component, exports_at, total_of}
 use Rattle.component_package.proofs.Laws.{steps_find_the_fault}
 use Rattle.component_package.proofs.Lists.{all_at}
-use Rattle.component_store.specs.Sets.{IsHeaderOf}
 use Rattle.kept_definitions.specs.Runs.{run_of, run_in_package}
-use Rattle.kept_definitions.specs.Stored.{Placed, StoredRelease, IsStored, Stores}
+use Rattle.kept_definitions.specs.Stored.{Placed, StoredRelease, Stores}
 use Rattle.kept_definitions.specs.Kept.{table_run, going_packages, HoldPackages}
 use Rattle.kept_definitions.specs.Sides.{Parts, chosen_side, is_pending, going_set}
 use Rattle.kept_definitions.specs.Sound.{IsSound, IsGoing}

@@ -1,5 +1,5 @@
 -- A copy, the runs of new components, and the end of their installation.
-use Rattle.std.proofs.Common.{◌≡◌, ℕ, ◌+◌, ◌≤◌, Bool, true, false, cond, List, [], ◌∷◌, Some, Ok, refl, sym as flip, ◌∙◌, ap, subst, arith}
+use Rattle.std.proofs.Common.{◌≡◌, ℕ, Bool, true, false, cond, List, [], ◌∷◌, Some, Ok, refl, sym as flip, ◌∙◌, ap, subst, arith}
 use Rattle.std.specs.Prelude.{◌&&◌, ◌||◌}
 use Rattle.std.specs.List.{AllByRecursion}
 use Rattle.std.proofs.lemmas.Bool.{false≢true, or_parts}
@@ -7,7 +7,7 @@ use Rattle.flash_pages.specs.State.{State, Place, Prog, Ext, ext_pages}
 use Rattle.flash_pages.specs.Board.{View, Reads}
 use Rattle.component_package.proofs.Lists.{all_of_list}
 use Rattle.kept_definitions.specs.Stored.{Placed, StoredRelease, Stores}
-use Rattle.kept_definitions.specs.Sides.{Parts, chosen_side, is_pending}
+use Rattle.kept_definitions.specs.Sides.{chosen_side, is_pending}
 use Rattle.kept_definitions.specs.Machine.{Mote}
 use Rattle.kept_laws.specs.Laws.{KeepsItsRun}
 use Rattle.kept_laws.proofs.Says.{image_is_the_chosens}
@@ -19,8 +19,23 @@ use Rattle.kept_journal.specs.declared.standing.Standing.{Standing}
 use Rattle.kept_journal.specs.Standing.{IsStanding}
 use Rattle.kept_journal.proofs.Side.{standing_formatted}
 use Rattle.kept_journal.proofs.Takes.{takes_none, takes_read, takes_more, takes_weaker, takes_takes, step_wider}
-use Rattle.kept_boot.specs.Boots.{copied, with_runs, chosen_entries, booted, Installs, fresh_tables, installed_pages, boot_pages, boot_programs, program_pages, IsBehind, Lags, HasStarted, WearsProgram,
-  BootAnswers}
+use Rattle.kept_boot.specs.Boots.{
+  copied,
+  with_runs,
+  chosen_entries,
+  booted,
+  Installs,
+  fresh_tables,
+  installed_pages,
+  boot_pages,
+  boot_programs,
+  program_pages,
+  IsBehind,
+  Lags,
+  HasStarted,
+  WearsProgram,
+  BootAnswers,
+}
 use Rattle.kept_boot.specs.Bringing.{Brings}
 
 -- program pages, table slots and gates are among the pages of an installation

@@ -1,6 +1,6 @@
 -- From pages of a board to parts of a mote.
-use Rattle.std.proofs.Common.{◌≡◌, inl, inr, ℕ, ◌<◌, ◌≤◌, Bool, true, false, cond, eqb, List, refl, sym as flip, ap, ◌∙◌, subst, arith}
-use Rattle.flash_pages.specs.State.{State, Prog, Ext, IsState, MayHold, with_page}
+use Rattle.std.proofs.Common.{◌≡◌, inl, inr, ℕ, Bool, true, false, cond, List, refl, sym as flip, ap, ◌∙◌, subst, arith}
+use Rattle.flash_pages.specs.State.{State, IsState, MayHold, with_page}
 use Rattle.external_flash.specs.declared.Gate.{Gate}
 use Rattle.external_flash.specs.declared.Gate.TheVariants.{Fmt, Man, Sym, Rel, Img, GoA, GoB, Sel}
 use Rattle.external_flash.specs.Gates.{gate_page, gate_place, opens, is_open, opened, closed, open_page, closed_page}

@@ -1,5 +1,5 @@
 -- Gates that are closed from Img upward.
-use Rattle.std.proofs.Common.{◌≡◌, ℕ, ◌+◌, ◌≤◌, Bool, true, false, Some, None, refl, sym as flip, ap, ◌∙◌, subst, arith}
+use Rattle.std.proofs.Common.{◌≡◌, false, Some, refl, ap, ◌∙◌, arith}
 use Rattle.std.proofs.lemmas.Bool.Decides.{nat_tests}
 use Rattle.flash_pages.specs.State.{State, Place, Prog, Ext, ext_pages}
 use Rattle.flash_pages.specs.Board.{View, Programs}
@@ -7,13 +7,12 @@ use Rattle.external_flash.specs.declared.Gate.TheVariants.{Man, Sym, Rel, Img}
 use Rattle.external_flash.specs.Gates.{gate_place, IsOpen, closed}
 use Rattle.kept_definitions.specs.Sides.{Parts}
 use Rattle.component_package.specs.mote.Sides.{man, sym, rel, img}
-use Rattle.kept_definitions.specs.Sound.{IsSound}
 use Rattle.kept_definitions.specs.Machine.{Mote}
 use Rattle.kept_definitions.specs.Headline.{StandsFor}
 use Rattle.kept_laws.specs.Steps.{with_gate}
 use Rattle.kept_laws.proofs.Steps.{closing_keeps}
 use Rattle.kept_laws.proofs.Stands.{resting_steps_stand}
-use Rattle.kept_journal.specs.Steps.{parts, Stands, Step, Takes, Becomes, any_mote, unlinks, abandons, unlinked, abandoned}
+use Rattle.kept_journal.specs.Steps.{parts, Step, Takes, Becomes, any_mote, unlinks, abandons, unlinked, abandoned}
 use Rattle.kept_journal.proofs.Bridge.{parts_closed}
 use Rattle.kept_journal.proofs.Takes.{takes_none, takes_gate, takes_weaker, becomes}
 

@@ -1,5 +1,5 @@
 -- The end of an installation.
-use Rattle.std.proofs.Common.{◌≡◌, ℕ, ◌+◌, ◌≤◌, Bool, true, false, cond, List, Some, refl, sym as flip, ap, ap₂, ◌∙◌, subst, arith}
+use Rattle.std.proofs.Common.{◌≡◌, ℕ, Bool, true, false, cond, List, Some, refl, sym as flip, ap, ap₂, ◌∙◌, subst, arith}
 use Rattle.std.proofs.lemmas.Bool.Decides.{nat_tests}
 use Rattle.flash_pages.specs.State.{State, Place, Prog, Ext, ext_pages}
 use Rattle.flash_pages.specs.Board.{View, Reads, Programs}
@@ -7,7 +7,7 @@ use Rattle.external_flash.specs.declared.Gate.{Gate}
 use Rattle.external_flash.specs.Gates.{gate_page, gate_place, IsOpen, closed}
 use Rattle.kept_definitions.specs.Stored.{Stores}
 use Rattle.kept_definitions.specs.Sides.{Parts, is_on_b, is_pending, chosen_side}
-use Rattle.component_package.specs.mote.Sides.{man, sym, rel, img, go_a, go_b, sel}
+use Rattle.component_package.specs.mote.Sides.{man, sym, rel, img, sel}
 use Rattle.kept_definitions.specs.Sound.{IsSound}
 use Rattle.kept_definitions.specs.Machine.{Mote}
 use Rattle.kept_definitions.specs.Headline.{StandsFor}

@@ -1,15 +1,15 @@
 -- Gates that are opened: those of stages, Sel and a Go gate.
-use Rattle.std.proofs.Common.{◌≡◌, ◌⊎◌, inl, inr, ⊎_elim, ℕ, ◌+◌, ◌≤◌, Bool, true, false, cond, not, Some, None, refl, sym as flip, ap, ◌∙◌, subst, arith}
+use Rattle.std.proofs.Common.{◌≡◌, ◌⊎◌, inl, inr, ⊎_elim, ℕ, Bool, true, false, cond, not, Some, refl, sym as flip, ap, ◌∙◌, subst, arith}
 use Rattle.std.proofs.lemmas.Bool.Decides.{nat_tests}
-use Rattle.flash_pages.specs.State.{State, Place, Ext, MayHold}
+use Rattle.flash_pages.specs.State.{State, MayHold}
 use Rattle.flash_pages.specs.Board.{View, Reads, Programs}
 use Rattle.flash_pages.proofs.Pages.{only_starts, only_programs}
-use Rattle.flash_pages.proofs.Runs.{starts, reads, programs}
+use Rattle.flash_pages.proofs.Runs.{starts, programs}
 use Rattle.external_flash.specs.declared.Gate.{Gate}
 use Rattle.external_flash.specs.declared.Gate.TheVariants.{Sel}
-use Rattle.external_flash.specs.Gates.{gate_page, gate_place, is_open, IsOpen, IsShut, opened, closed}
+use Rattle.external_flash.specs.Gates.{gate_page, gate_place, IsShut, opened}
 use Rattle.kept_definitions.specs.Sides.{Parts, is_on_b, is_pending}
-use Rattle.component_package.specs.mote.Sides.{go_a, go_b, sel}
+use Rattle.component_package.specs.mote.Sides.{sel}
 use Rattle.kept_definitions.specs.Sound.{IsSound}
 use Rattle.kept_definitions.specs.Machine.{Mote, step}
 use Rattle.kept_definitions.specs.Headline.{StandsFor}
@@ -20,7 +20,7 @@ use Rattle.kept_laws.proofs.Stands.{resting_steps_stand, standing_steps_stand, c
 use Rattle.kept_journal.specs.declared.gates.Stage.{Stage}
 use Rattle.kept_journal.specs.declared.gates.Stage.TheVariants.{Symbols, Relocs, Image}
 use Rattle.kept_journal.specs.Steps.{parts, Stands, Step, CommitStep, Takes, Becomes, Rests, Pends, IsLinked, stays, marks, commits, stage_gate, Vouches, one_page}
-use Rattle.kept_journal.proofs.Bridge.{gate_known, parts_gate, parts_opened, parts_closed, gate_step}
+use Rattle.kept_journal.proofs.Bridge.{gate_known, parts_opened, gate_step}
 use Rattle.kept_journal.proofs.Takes.{takes_none, takes_gate, takes_read, takes_more, becomes}
 
 -- the page of a gate is the one that may change

@@ -1,12 +1,11 @@
 -- Pages of a side that are read or written one after another.
-use Rattle.std.proofs.Common.{◌≡◌, inl, inr, ℕ, ◌+◌, ◌-◌, ◌*◌, ◌≤◌, ◌<◌, Bool, true, false, cond, Option, Some, None, List, [], ◌∷◌, ◌++◌, length, take, drop, get_or, set, refl, sym as flip, ap, ap₂, ◌∙◌, subst, arith, length-drop, get_or-set_same, length-set}
+use Rattle.std.proofs.Common.{◌≡◌, inl, inr, ℕ, ◌+◌, ◌≤◌, ◌<◌, Bool, true, false, cond, Option, Some, None, List, [], ◌∷◌, ◌++◌, length, take, drop, get_or, set, refl, sym as flip, ap, ap₂, ◌∙◌, subst, arith, length-drop, get_or-set_same, length-set}
 use Rattle.std.specs.Prelude.{IfSome, IfNone, is_some, ◌&&◌}
 use Rattle.std.specs.List.{concat}
 use Rattle.std.specs.Option.{option_map}
 use Rattle.std.proofs.lemmas.Bool.{both_ways}
 use Rattle.std.proofs.lemmas.List.{take_more, take_all, take-set-le, get_or-take, get_or-drop, length-take-le}
-use Rattle.flash_pages.specs.State.{State, IsState}
-use Rattle.flash_pages.specs.Board.{View}
+use Rattle.flash_pages.specs.State.{State}
 use Rattle.kept_manifests.specs.declared.pages.SlotManifest.{SlotManifest}
 use Rattle.kept_definitions.specs.Stored.{Stores}
 use Rattle.kept_manifests.specs.Slots.{stored_of}
@@ -21,7 +20,7 @@ use Rattle.kept_definitions.specs.Machine.{Mote}
 use Rattle.kept_definitions.specs.Headline.{has_incoming, is_linked, StandsFor}
 use Rattle.kept_laws.proofs.Standing.{sound_parts_tell}
 use Rattle.kept_journal.specs.Standing.{IsStanding, IsOfMote, incoming_of, SideSays, FlagsSay, StoresRelease, side_bytes}
-use Rattle.kept_journal.specs.Steps.{parts, with_side, CanWrite, Stands}
+use Rattle.kept_journal.specs.Steps.{parts}
 
 -- the first page of a side
 abbrev pub first_of : Bool → ℕ

@@ -1,9 +1,8 @@
 -- How steps follow on each other.
-use Rattle.std.proofs.Common.{◌≡◌, ◌≢◌, inl, inr, ℕ, ◌+◌, ◌<◌, ◌≤◌, Bool, true, false, Some, refl, sym as flip, ap, ◌∙◌, subst, arith}
+use Rattle.std.proofs.Common.{◌≡◌, ◌≢◌, inl, inr, ℕ, ◌+◌, ◌≤◌, Bool, true, false, Some, refl, sym as flip, ap, ◌∙◌, subst, arith}
 use Rattle.std.proofs.lemmas.Bool.{false≢true}
-use Rattle.flash_pages.specs.State.{State, Place, Prog, Ext, MayHold, OnlyPages, with_page}
+use Rattle.flash_pages.specs.State.{State, Place, Prog, Ext, MayHold}
 use Rattle.flash_pages.specs.Board.{View, Reads, Programs}
-use Rattle.flash_pages.specs.Moments.{LeavesOnly}
 use Rattle.flash_pages.proofs.Pages.{only_starts, only_programs, only_only}
 use Rattle.flash_pages.proofs.Runs.{starts, follows, weaker, at_end, reads, programs}
 use Rattle.external_flash.specs.declared.Gate.{Gate}

@@ -1,24 +1,22 @@
 -- A manifest that is taken in.
-use Rattle.std.proofs.Common.{◌≡◌, ℕ, ◌+◌, ◌≤◌, ◌<◌, Bool, true, false, cond, not, Option, Some, None, List, refl, sym as flip, ap, ap₂, ◌∙◌, subst, arith}
+use Rattle.std.proofs.Common.{◌≡◌, ℕ, Bool, true, false, not, Some, List, refl, sym as flip, ap, ◌∙◌, subst, arith}
 use Rattle.std.proofs.lemmas.Bool.{or_parts}
 use Rattle.flash_pages.specs.State.{State, Place, Prog, Ext, ext_pages}
 use Rattle.flash_pages.specs.Board.{View, Reads, Programs}
 use Rattle.external_flash.specs.declared.Gate.TheVariants.{Man}
 use Rattle.external_flash.specs.Gates.{gate_place, IsShut, opened}
-use Rattle.component_package.specs.packages.Manifest.{Release}
 use Rattle.kept_definitions.specs.Stored.{StoredRelease, Stores, IsStored, stored_bytes}
-use Rattle.kept_definitions.specs.Kept.{slots_for}
 use Rattle.kept_definitions.specs.Sides.{Parts, is_on_b, chosen_side, other_side, is_pending}
 use Rattle.component_package.specs.mote.Sides.{man}
-use Rattle.kept_definitions.specs.Sound.{IsSound, IsNext}
+use Rattle.kept_definitions.specs.Sound.{IsNext}
 use Rattle.kept_definitions.specs.Machine.{Mote}
 use Rattle.kept_definitions.specs.Headline.{StandsFor}
-use Rattle.kept_laws.specs.Steps.{with_gate, with_other_side, Keeps}
+use Rattle.kept_laws.specs.Steps.{with_gate, with_other_side}
 use Rattle.kept_laws.specs.Invariant.{ComesNext}
 use Rattle.kept_laws.proofs.Steps.{opening_keeps}
 use Rattle.kept_laws.proofs.Stands.{resting_steps_stand}
 use Rattle.kept_laws.proofs.Slots.{slots_are_found}
-use Rattle.kept_journal.specs.Steps.{parts, Stands, Step, Takes, Becomes, any_mote, Rests, CanTake, CanWrite, stays, abandons, takes_in, abandoned, taken_in, with_side, side_pages, manifest_pages}
+use Rattle.kept_journal.specs.Steps.{parts, Stands, Step, Takes, Becomes, any_mote, CanTake, CanWrite, stays, abandons, takes_in, abandoned, taken_in, with_side, side_pages, manifest_pages}
 use Rattle.kept_journal.proofs.Bridge.{parts_opened}
 use Rattle.kept_journal.proofs.Takes.{takes_none, takes_read, takes_gate, takes_takes, becomes}
 use Rattle.kept_journal.proofs.Writing.{other_is}

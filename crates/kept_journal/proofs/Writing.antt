@@ -5,7 +5,7 @@ use Rattle.std.proofs.lemmas.Bool.Decides.{nat_tests}
 use Rattle.std.proofs.lemmas.Bool.{both_ways}
 use Rattle.std.proofs.lemmas.List.{take_more, take_all, take-set-le, append-nil, length-take-le}
 use Rattle.std.proofs.lemmas.List.Folds.{concat-append}
-use Rattle.flash_pages.specs.State.{State, Place, Prog, Ext, IsState, MayHold, with_page, ext_pages}
+use Rattle.flash_pages.specs.State.{State, Ext, MayHold, with_page}
 use Rattle.flash_pages.specs.Board.{View, Programs}
 use Rattle.kept_definitions.specs.Stored.{StoredRelease, IsStored, stored_bytes}
 use Rattle.component_package.proofs.StoredLemmas.{take_further}
@@ -21,7 +21,7 @@ use Rattle.kept_laws.proofs.Stands.{resting_steps_stand}
 use Rattle.kept_laws.proofs.Programs.{each_page_is_in_one_part}
 use Rattle.mote_laws.proofs.Programs.{pages_within}
 use Rattle.kept_journal.specs.Steps.{parts, Stands, Step, Takes, Becomes, CanWrite, stays, with_side, side_pages}
-use Rattle.kept_journal.proofs.Takes.{keeps_same, takes_none, takes_program, takes_end, becomes}
+use Rattle.kept_journal.proofs.Takes.{keeps_same, takes_program, becomes}
 
 -- the first page of a side
 abbrev pub first_of : Bool → ℕ

@@ -1,17 +1,17 @@
 -- What the steps of the journal do: to the parts of a told state, to the mote that it stands for, and what a cut may leave of them.
-use Rattle.std.specs.Prelude.{◌≡◌, ◌⊎◌, ◌&&◌, ◌||◌, not, nat_le, nat_lt, ℕ, ◌+◌, ◌-◌, Bool, true, false, if◌then◌else◌, List, Option, Some, None}
+use Rattle.std.specs.Prelude.{◌≡◌, ◌⊎◌, ◌&&◌, ◌||◌, not, nat_le, nat_lt, ℕ, ◌+◌, Bool, true, false, if◌then◌else◌, List, Some, None}
 use Rattle.std.specs.List.{AllByRecursion}
 use Rattle.flash_pages.specs.State.{State, Place, Prog, Ext, OnlyPages}
 use Rattle.flash_pages.specs.Board.{View}
 use Rattle.flash_pages.specs.Moments.{LeavesOnly}
 use Rattle.kept_definitions.specs.Stored.{StoredRelease, Stores}
-use Rattle.kept_definitions.specs.Sides.{Parts, parts_of, is_on_b, is_pending, chosen_side}
-use Rattle.component_package.specs.mote.Sides.{pages_from, man, sym, rel, img, sel}
+use Rattle.kept_definitions.specs.Sides.{Parts, parts_of, is_on_b, chosen_side}
+use Rattle.component_package.specs.mote.Sides.{man, sym, rel, img, sel}
 use Rattle.kept_definitions.specs.Sound.{IsSound, IsMerged, IsListed, IsStaged}
 use Rattle.kept_definitions.specs.Machine.{Mote, step}
 use Rattle.kept_definitions.specs.Headline.{StandsFor}
 use Rattle.kept_laws.specs.Laws.{KeepsItsRun}
-use Rattle.kept_laws.specs.Steps.{with_gate, with_other_side, other_go, chosen_go, Keeps}
+use Rattle.kept_laws.specs.Steps.{with_gate, with_other_side, chosen_go, Keeps}
 use Rattle.mote_laws.specs.Stands.{commit_frame}
 use Rattle.kept_laws.specs.Invariant.{ComesNext}
 use Rattle.kept_journal.specs.declared.gates.Stage.{Stage}

@@ -9,9 +9,9 @@ ghost use Rattle.kept_journal.specs.Steps.{parts, Step, Takes, Becomes, Rests, C
 
 use crate::gates::abandon;
 use crate::standing::{first_page, is_on_b};
-use kept_manifests::{SlotManifest, slot_page};
 use external_flash::{Gate, open_gate, program_if_different};
 use flash_pages::{Board, Failed};
+use kept_manifests::{SlotManifest, slot_page};
 
 // Writes the pages of a side where they differ.
 fn write_side<B: Board>(board: &mut B, on_b: bool, m: &SlotManifest) -> Result<(), Failed>

@@ -12,9 +12,9 @@ ghost use Rattle.kept_journal.specs.Steps.{parts, Stands};
 ghost use Rattle.kept_journal.specs.Standing.{AnswersFor, IsOfMote, HasManifests, SideSays, FlagsSay, StoresRelease, side_by, side_bytes, is_fault};
 
 use component_package::areas::{MANIFEST_A, MANIFEST_B};
-use kept_manifests::{SlotManifest, read_slot_pages};
 use external_flash::{Gate, gate_is_open};
 use flash_pages::{Board, Failed};
+use kept_manifests::{SlotManifest, read_slot_pages};
 use std::error::Error;
 use std::fmt;
 

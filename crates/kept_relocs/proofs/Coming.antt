@@ -126,10 +126,13 @@ rest_site set b k index c r here there part = by_part b part
     next = next_site set k index c r here there ∙ ap (λ (n : ℕ). record { component = k; index = index; reloc = r } ∷ sites_after set k n) one
 
     by_part : (b : Bool) → r.in_init ≡ b → rest_at set b k index ≡ record { component = k; index = index; reloc = r } ∷ rest_at set b k (index + 1)
-    by_part true e = ap in_data next ∙ ap (λ (t : Bool). cond t (record { component = k; index = index; reloc = r } ∷ in_data (sites_after set k (index + 1))) (in_data (sites_after set k (index + 1)))) e
+    by_part true e =
+        ap in_data next
+        ∙ ap (λ (t : Bool). cond t (record { component = k; index = index; reloc = r } ∷ in_data (sites_after set k (index + 1))) (in_data (sites_after set k (index + 1)))) e
     by_part false e =
         ap (λ (l : List Site). in_code l ++ in_data (sites_of set)) next
-        ∙ ap (λ (t : Bool). cond (not t) (record { component = k; index = index; reloc = r } ∷ in_code (sites_after set k (index + 1))) (in_code (sites_after set k (index + 1))) ++ in_data (sites_of set)) e
+        ∙ ap (λ (t : Bool).
+        cond (not t) (record { component = k; index = index; reloc = r } ∷ in_code (sites_after set k (index + 1))) (in_code (sites_after set k (index + 1))) ++ in_data (sites_of set)) e
 
 -- one of the other part is passed over
 pub rest_skip : (set : List Component) (b : Bool) (k index : ℕ) (c : Component) (r : Reloc) → slice_get set k ≡ Some c → slice_get c.relocs index ≡ Some r → r.in_init ≡ not b
@@ -143,10 +146,13 @@ rest_skip set b k index c r here there part = by_part b part
     next = next_site set k index c r here there ∙ ap (λ (n : ℕ). record { component = k; index = index; reloc = r } ∷ sites_after set k n) one
 
     by_part : (b : Bool) → r.in_init ≡ not b → rest_at set b k index ≡ rest_at set b k (index + 1)
-    by_part true e = ap in_data next ∙ ap (λ (t : Bool). cond t (record { component = k; index = index; reloc = r } ∷ in_data (sites_after set k (index + 1))) (in_data (sites_after set k (index + 1)))) e
+    by_part true e =
+        ap in_data next
+        ∙ ap (λ (t : Bool). cond t (record { component = k; index = index; reloc = r } ∷ in_data (sites_after set k (index + 1))) (in_data (sites_after set k (index + 1)))) e
     by_part false e =
         ap (λ (l : List Site). in_code l ++ in_data (sites_of set)) next
-        ∙ ap (λ (t : Bool). cond (not t) (record { component = k; index = index; reloc = r } ∷ in_code (sites_after set k (index + 1))) (in_code (sites_after set k (index + 1))) ++ in_data (sites_of set)) e
+        ∙ ap (λ (t : Bool).
+        cond (not t) (record { component = k; index = index; reloc = r } ∷ in_code (sites_after set k (index + 1))) (in_code (sites_after set k (index + 1))) ++ in_data (sites_of set)) e
 
 -- ---- which part
 

@@ -74,7 +74,9 @@ pub read_entry : (b raw : List ℕ) (xs : List Fixup) (i : ℕ) → Lists b xs �
 read_entry b raw xs i l low is other =
     elim (slice_get_cases xs i).1 [
       | inl some ↦ ap (λ (r : List ℕ). Some (entry_of r)) (is ∙ entry_there b xs i some.0 l some.2) ∙ ap Some (entry_again some.0 (all_at IsEntry xs i some.0 l.entries some.2)) ∙ sym some.2
-      | inr none ↦ absurd (other (ap (λ (r : List ℕ). get_or r 3 0) is ∙ get_or-slice b (8 * i) (8 * i + 8) 3 (omega arith) ∙ blank_there b xs (8 * i + 3) l (omega (arith, none.0)) (omega (arith, low))))
+      | inr none ↦
+          absurd (other (ap (λ (r : List ℕ). get_or r 3 0) is ∙ get_or-slice b (8 * i) (8 * i + 8) 3 (omega arith)
+          ∙ blank_there b xs (8 * i + 3) l (omega (arith, none.0)) (omega (arith, low))))
     ]
 
 -- whatever the bytes are

@@ -1,5 +1,5 @@
 -- The components of a set that a board holds, by their headers.
-use Rattle.std.proofs.Common.{◌≡◌, ℕ, suc, ◌+◌, ◌<◌, Option, Some, None, List, [], ◌∷◌, length, take, map, refl, sym, ap, ap₂, ◌∙◌, arith, length-append}
+use Rattle.std.proofs.Common.{◌≡◌, ℕ, suc, ◌+◌, ◌<◌, Option, Some, None, List, [], ◌∷◌, length, take, map, refl, sym, ap, ap₂, ◌∙◌, subst, arith, length-append}
 use Rattle.std.specs.Prelude.{slice_get}
 use Rattle.std.specs.List.{sum_by, flat_map, enumerate_from}
 use Rattle.std.proofs.lemmas.List.Concat.{flat_map-cons}
@@ -11,9 +11,10 @@ use Rattle.component_package.specs.declared.part.Header.{Header}
 use Rattle.component_package.specs.declared.part.Reloc.{Reloc}
 use Rattle.component_package.specs.declared.part.Site.{Site}
 use Rattle.component_package.specs.packages.Component.{Component}
-use Rattle.component_package.specs.link.Layout.{room_of}
+use Rattle.component_package.specs.link.Layout.{Room, room_of}
 use Rattle.component_package.specs.link.Link.{rooms_of, sites_in, sites_of}
 use Rattle.layout_plan.specs.declared.plan.Plan.{Plan}
+use Rattle.layout_plan.specs.Plan.{IsPlan}
 use Rattle.kept_store.specs.declared.set.StoredSet.{StoredSet}
 use Rattle.kept_store.specs.Sets.{IsSet, HoldsSet, no_header, header_at}
 use Rattle.kept_store.specs.Open.{HasRooms}
@@ -121,14 +122,20 @@ module _ (s : State) (set : StoredSet) (components : List Component) (is : IsSet
           let bss : c.bss ≡ h.bss = each.0.bss ∙ ap (λ (g : Header). g.bss) same in
           λ i. record { code = code i; init = init i; bss = bss i }
 
+  -- so a plan of the set is theirs
+  pub plan_is : (p : Plan) → IsPlanOf set p → IsPlan (rooms_of components) p
+  plan_is p planned = subst (λ (rs : List Room). IsPlan rs p) (sym rooms_are) planned.plan
+
   -- and they have as many relocations
   pub relocs_are : length (sites_of components) ≡ relocs_of set
   relocs_are =
       sites_count 0 components
-      ∙ same_sums (λ c. length c.relocs) (λ h. h.relocs) components headers lengths (λ k c h here there. let each = each_header k c h here there in each.0.relocs ∙ ap (λ (g : Header). g.relocs) (sym each.1))
+      ∙ same_sums (λ c. length c.relocs) (λ h. h.relocs) components headers lengths (λ k c h here there.
+      let each = each_header k c h here there in each.0.relocs ∙ ap (λ (g : Header). g.relocs) (sym each.1))
 
 -- a plan has as many components as the manifest counts
 pub plan_count : (set : StoredSet) (p : Plan) → IsSet set → HasRooms set → IsPlanOf set p → p.count ≡ set.slots.manifest.count
 plan_count set p is rooms plan =
     let few = is.manifest.count in
-    plan.plan.count ∙ length-map (take set.slots.manifest.count set.headers) (λ h. record { code = h.code; init = h.init; bss = h.bss }) ∙ length-take-le set.slots.manifest.count set.headers (omega (arith, rooms.headers))
+    plan.plan.count ∙ length-map (take set.slots.manifest.count set.headers) (λ h. record { code = h.code; init = h.init; bss = h.bss })
+    ∙ length-take-le set.slots.manifest.count set.headers (omega (arith, rooms.headers))

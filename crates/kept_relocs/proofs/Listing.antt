@@ -1,5 +1,6 @@
 -- The list's bytes, page by page.
-use Rattle.std.proofs.Common.{◌≡◌, ℕ, zero, suc, ◌+◌, ◌-◌, ◌*◌, ◌<◌, ◌≤◌, List, [], ◌∷◌, ◌++◌, All, Some, length, take, drop, map, get_or, replicate, refl, sym, ap, ap₂, ◌∙◌, subst, arith, slice_range, length-append, append_assoc}
+use Rattle.std.proofs.Common.{◌≡◌, ℕ, zero, suc, ◌+◌, ◌-◌, ◌*◌, ◌<◌, ◌≤◌, List, [], ◌∷◌, ◌++◌, All, Some, length, take, drop, map, get_or, replicate, refl, sym, ap, ap₂, ◌∙◌}
+use Rattle.std.proofs.Common.{subst, arith, slice_range, length-append, append_assoc}
 use Rattle.std.specs.Prelude.{slice_get}
 use Rattle.std.specs.List.{flat_map, concat, AllByRecursion}
 use Rattle.std.proofs.lemmas.List.{replicate-append-replicate, length-replicate, drop-drop, drop-map, length-take, length-take-le, length-drop, get_or-take, get_or-drop, take-append-drop}
@@ -125,13 +126,15 @@ joined (q ∷ ps) b all long each =
         let w1 : 256 * suc p + 256 - 256 * suc p ≡ 256 = omega arith in
         let w2 : 256 * p + 256 - 256 * p ≡ 256 = omega arith in
         each (suc p) (omega (arith, lt)) ∙ ap (λ (m : ℕ). take m (drop (256 * suc p) b)) w1 ∙ ap (λ (m : ℕ). take 256 (drop m b)) e1
-        ∙ ap (λ (m : ℕ). take 256 (drop m b)) (let e : 256 + 256 * p ≡ 256 * p + 256 = omega arith in e) ∙ ap (take 256) (sym (drop-drop_other (256 * p) b)) ∙ ap (λ (m : ℕ). take m (drop (256 * p) (drop 256 b))) (sym w2)
+        ∙ ap (λ (m : ℕ). take 256 (drop m b)) (let e : 256 + 256 * p ≡ 256 * p + 256 = omega arith in e)
+        ∙ ap (take 256) (sym (drop-drop_other (256 * p) b)) ∙ ap (λ (m : ℕ). take m (drop (256 * p) (drop 256 b))) (sym w2)
 
 -- 256 pages that are the list's are the list
 pub area_is_list : (x : State) (xs : List Fixup) → IsState x → length xs ≤ 8192 → HoldsFirst 50 256 x (λ p. get_or (in_pages 256 (list_bytes xs)) p []) → list_area x ≡ list_bytes xs
 area_is_list x xs sizes few holds =
     let ps : List (List ℕ) = take 256 (drop 50 x.ext) in
-    let all : All (λ p. length p ≡ 256) ps = All-take (λ (p : List ℕ). length p ≡ 256) 256 (drop 50 x.ext) (All-drop (λ (p : List ℕ). length p ≡ 256) 50 x.ext (λ k d lt. (sizes.ext_pages k d lt).0)) in
+    let all : All (λ p. length p ≡ 256) ps =
+    All-take (λ (p : List ℕ). length p ≡ 256) 256 (drop 50 x.ext) (All-drop (λ (p : List ℕ). length p ≡ 256) 50 x.ext (λ k d lt. (sizes.ext_pages k d lt).0)) in
     let count : length ps ≡ 256 = length-take-le 256 (drop 50 x.ext) (omega (arith, length-drop 50 x.ext, sizes.ext)) in
     joined ps (list_bytes xs) all (omega (arith, count, list_length xs few)) (λ p lt.
     get_or-take 256 (drop 50 x.ext) p [] (omega (arith, lt, count)) ∙ get_or-drop 50 x.ext p [] ∙ holds p (omega (arith, lt, count))

@@ -78,7 +78,8 @@ module _ (s : State) (set : StoredSet) (components : List Component) (plan : Pla
       → bytes ≡ target components table p
   page_is x only rest p bytes lt rest_is said =
       let records : map (fixup_with (address_in table) components) rest ≡ drop (32 * p) (listed components table) = rest_records components table rest (32 * p) rest_is in
-      let entries : AllByRecursion IsEntry (map (fixup_with (address_in table) components) rest) = subst (AllByRecursion IsEntry) (sym records) (all_left IsEntry (32 * p) (listed components table) lists.entries) in
+      let entries : AllByRecursion IsEntry (map (fixup_with (address_in table) components) rest) =
+      subst (AllByRecursion IsEntry) (sym records) (all_left IsEntry (32 * p) (listed components table) lists.entries) in
       said table (subst (λ (b : List ℕ). Tells b table) (sym (symbols_stay s x only)) tells) entries
       ∙ ap (λ (l : List Fixup). area_bytes entry_bytes 256 (take 32 l)) records ∙ sym (list_page_is p (listed components table) lt listed_few)
 

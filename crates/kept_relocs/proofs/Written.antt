@@ -108,7 +108,9 @@ wears_other first done pages s old new told within w sp = record {
             | inl inside ↦
                 let is : q ≡ first + (q - first) = omega (arith, from) in
                 subst (λ (k : ℕ). new.programs (Ext k) ≡ old.programs (Ext k)) (sym is)
-                (sp (q - first) (omega (arith, from, inside)) (λ differs. free (record { page = q - first; within = omega (arith, from, inside, within); is = ap Ext is; differs = subst (λ (k : ℕ). page_at s (Ext k) ≢ get_or pages (q - first) []) (sym is) differs })))
+                (sp (q - first) (omega (arith, from, inside)) (λ differs.
+                let other : page_at s (Ext q) ≢ get_or pages (q - first) [] = subst (λ (k : ℕ). page_at s (Ext k) ≢ get_or pages (q - first) []) (sym is) differs in
+                free (record { page = q - first; within = omega (arith, from, inside, within); is = ap Ext is; differs = other })))
           ]
         ]
 
@@ -175,7 +177,8 @@ holds_more first done x y target bytes sizes within is bytes_are holds p lt =
           ap (λ (z : State). page_at z (Ext (first + p))) is ∙ page_at-apart x (Ext (first + done)) (Ext (first + p)) bytes (other_page first p done (λ e. omega (arith, below, e))) ∙ holds p below
       | inr from ↦
           let same : p ≡ done = omega (arith, lt, from) in
-          subst (λ (k : ℕ). page_at y (Ext (first + k)) ≡ target k) (sym same) (ap (λ (z : State). page_at z (Ext (first + done))) is ∙ page_at-with_page x (first + done) bytes sizes within ∙ bytes_are)
+          subst (λ (k : ℕ). page_at y (Ext (first + k)) ≡ target k) (sym same)
+          (ap (λ (z : State). page_at z (Ext (first + done))) is ∙ page_at-with_page x (first + done) bytes sizes within ∙ bytes_are)
     ]
 
 -- ---- one page of a pass over an area of `count` pages
@@ -213,9 +216,11 @@ module _ (first last count : ℕ) (ends : first + count ≡ last + 1) (Only : St
         spares_more first p s passed_here.run.end target old read new passed_here.worn (spares_reads first p s target old mid read sp r) passed_here.run.told (passed_here.left p (omega arith))
         (subst (λ (b : List ℕ). Programs (Differs (Ext (first + p)) b) (Ext (first + p)) read new) is program)
 
-    pub wear_program : (pages : List (List ℕ)) → length pages ≡ count → bytes ≡ get_or pages p [] → Spares first p s (λ q. get_or pages q []) old mid → old.state ≡ Some s → WearsOnce (IsOther first pages) old new
+    pub wear_program : (pages : List (List ℕ)) → length pages ≡ count → bytes ≡ get_or pages p [] → Spares first p s (λ q. get_or pages q []) old mid → old.state ≡ Some s
+        → WearsOnce (IsOther first pages) old new
     wear_program pages long is sp told =
-        wears_other first (p + 1) pages s old new told (omega (arith, within, long)) (wears first Only p s old read new passed_here (Differs (Ext (first + p)) bytes) program may_be) (spares_next (λ q. get_or pages q []) is sp)
+        wears_other first (p + 1) pages s old new told (omega (arith, within, long))
+        (wears first Only p s old read new passed_here (Differs (Ext (first + p)) bytes) program may_be) (spares_next (λ q. get_or pages q []) is sp)
 
     module _ (done : (t : State) → read.state ≡ Some t → new.state ≡ Some (with_page t (Ext (first + p)) bytes)) where
       -- behind a program that was done

@@ -72,7 +72,8 @@ fn put_record(page: &mut [u8; 256], j: u8, x: &Fixup)
     page[at..at + 8].copy_from_slice(&record(x));
 }
 
-// The next 32 records of the list, and 0xFF behind the last. Their relocations are read by a new reader: no page that a reader keeps outlives a program.
+// The next 32 records of the list, and 0xFF behind the last. It reads relocations by a reader of its own, since the page before this one
+// was programmed.
 fn list_page<B: Board>(
     board: &mut B,
     symbols: &mut SymbolReader,

@@ -1,5 +1,5 @@
 -- The components of a set that a board holds are a set of the grammar, with the rooms of its headers.
-use Rattle.std.proofs.Common.{◌≡◌, ℕ, suc, ◌+◌, ◌<◌, ◌≤◌, List, [], ◌∷◌, length, take, map, Some, refl, sym, ap, subst, ◌∙◌, arith}
+use Rattle.std.proofs.Common.{◌≡◌, ℕ, suc, ◌<◌, ◌≤◌, List, [], ◌∷◌, length, take, map, Some, refl, sym, ap, subst, ◌∙◌, arith}
 use Rattle.std.specs.Prelude.{slice_get}
 use Rattle.std.specs.List.{AllByRecursion}
 use Rattle.std.proofs.lemmas.List.{length-take-le}
@@ -15,7 +15,7 @@ use Rattle.kept_definitions.specs.Stored.{Placed}
 use Rattle.kept_manifests.specs.Slots.{place_of, stored_of}
 use Rattle.kept_store.specs.declared.set.StoredSet.{StoredSet}
 use Rattle.kept_store.specs.Open.{HasRooms}
-use Rattle.kept_store.specs.Sets.{IsSet, HoldsSet, IsComponentOf, no_header, header_at}
+use Rattle.kept_store.specs.Sets.{IsSet, HoldsSet, no_header, header_at}
 use Rattle.kept_symbols.specs.Stored.{header_room, IsOwnSet}
 use Rattle.kept_symbols.proofs.Elements.{get_take}
 

@@ -1,5 +1,6 @@
-//! The mote's own symbol table: a record for each symbol that a stored set exports, by rising symbol, on 32 pages of external flash.
+//! The mote's own symbol table: a record for each symbol that a set of the second layout exports, by rising symbol, on 32 pages of external flash.
 //!
+//! The set's components come out of the inbox or are installed; which they are makes no difference to the table.
 //! A record has eight bytes (our own layout): the symbol, the place of its exporter in the set, the kind of its place, and its address. The rest of
 //! the pages is 0xFF. No call takes memory, and none holds more than five pages: a merge goes over the exports of all components once, each through
 //! a window of eight exports.

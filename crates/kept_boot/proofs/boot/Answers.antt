@@ -1,4 +1,4 @@
-use Rattle.std.proofs.Common.{◌≡◌, Err, ◌∙◌, sym as flip, ap, subst}
+use Rattle.std.proofs.Common.{Err, ◌∙◌, sym as flip, ap, subst}
 use Rattle.kept_manifests.specs.Slots.{stored_of}
 use Rattle.kept_journal.specs.Steps.{parts}
 use Rattle.kept_journal.specs.Standing.{AnswersFor}

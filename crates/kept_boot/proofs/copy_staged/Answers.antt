@@ -1,4 +1,4 @@
-use Rattle.std.proofs.Common.{◌≡◌, ◌+◌, Some, refl, ◌∙◌, ap, arith}
+use Rattle.std.proofs.Common.{◌+◌, Some, refl, ◌∙◌, ap, arith}
 use Rattle.flash_pages.proofs.Runs.{uses_uses}
 use Rattle.kept_journal.specs.Steps.{parts, Step, Pends}
 use Rattle.kept_journal.proofs.Takes.{takes_none, takes_more}

@@ -1,8 +1,6 @@
-use Rattle.std.proofs.Common.{◌≡◌, ◌∙◌, ap, subst, sym as flip, Some, cond, Bool}
+use Rattle.std.proofs.Common.{◌∙◌, ap, subst, sym as flip, Some}
 use Rattle.flash_pages.specs.State.{State}
-use Rattle.kept_manifests.specs.Slots.{place_of, stored_of}
-use Rattle.kept_store.specs.Tables.{with_run}
-use Rattle.kept_boot.specs.Boots.{one_run}
+use Rattle.kept_manifests.specs.Slots.{place_of}
 use Rattle.kept_boot.specs.Bringing.{KeepsOne}
 use Rattle.kept_boot.proofs.Bringing.{fresh_takes, fresh_keeps, held_takes, held_keeps, run_fresh, run_held}
 use Rattle.kept_boot.proofs.keep_run.Goals as goal

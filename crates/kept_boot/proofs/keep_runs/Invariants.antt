@@ -1,5 +1,4 @@
 use Rattle.std.proofs.Common.{◌≡◌, Some, ◌*◌}
-use Rattle.flash_pages.specs.State.{State}
 use Rattle.flash_pages.specs.Board.{UsesFlash, Told}
 use Rattle.component_package.specs.packages.Reading.{list_of}
 use Rattle.kept_definitions.specs.Machine.{Mote}

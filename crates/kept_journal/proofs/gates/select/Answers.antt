@@ -1,9 +1,6 @@
-use Rattle.std.proofs.Common.{◌≡◌, Bool, true, false, sym as flip, ◌∙◌, ap}
+use Rattle.std.proofs.Common.{true, false}
 use Rattle.external_flash.specs.declared.Gate.TheVariants.{Sel}
 use Rattle.external_flash.specs.Gates.{IsOpen, IsShut, opened, closed}
-use Rattle.component_package.specs.mote.Sides.{sel}
-use Rattle.kept_laws.specs.Steps.{with_gate}
-use Rattle.kept_journal.specs.Steps.{parts}
 use Rattle.kept_journal.proofs.Bridge.{parts_opened, parts_closed}
 use Rattle.kept_journal.proofs.Opening.{kept_sel, selected}
 use Rattle.kept_journal.proofs.gates.select.Goals as goal

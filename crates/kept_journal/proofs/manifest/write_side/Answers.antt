@@ -1,4 +1,4 @@
-use Rattle.std.proofs.Common.{◌≡◌, ◌+◌, refl, ap, ◌∙◌, arith}
+use Rattle.std.proofs.Common.{◌+◌, refl, ap, ◌∙◌, arith}
 use Rattle.external_flash.specs.Areas.{Differs}
 use Rattle.flash_pages.specs.State.{Ext}
 use Rattle.flash_pages.proofs.Runs.{uses_uses}
@@ -6,7 +6,7 @@ use Rattle.kept_manifests.specs.Slots.{stored_of}
 use Rattle.kept_definitions.specs.Stored.{stored_bytes}
 use Rattle.kept_journal.specs.Steps.{parts, Step, CanWrite, side_pages}
 use Rattle.kept_journal.proofs.Takes.{takes_none, takes_more}
-use Rattle.kept_journal.proofs.Writing.{first_of, written_starts, wrote_page, written_more, side_written}
+use Rattle.kept_journal.proofs.Writing.{written_starts, wrote_page, written_more, side_written}
 use Rattle.kept_journal.proofs.manifest.write_side.Goals as goal
 
 pub loop-i-init : goal.loop-i-init

@@ -1,4 +1,4 @@
-use Rattle.std.proofs.Common.{◌≡◌, ◌+◌, ◌-◌, take, length}
+use Rattle.std.proofs.Common.{◌≡◌}
 use Rattle.flash_pages.specs.Board.{UsesFlash, Told}
 use Rattle.kept_manifests.specs.Slots.{stored_of}
 use Rattle.kept_definitions.specs.Stored.{stored_bytes}

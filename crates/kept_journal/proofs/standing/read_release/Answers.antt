@@ -1,8 +1,7 @@
-use Rattle.std.proofs.Common.{◌≡◌, ◌≤◌, ◌+◌, length, sym as flip, ap, ◌∙◌, subst, arith, length-set}
+use Rattle.std.proofs.Common.{ap, ◌∙◌, subst, arith, length-set}
 use Rattle.std.specs.List.{concat}
 use Rattle.flash_pages.proofs.Runs.{reads_reads}
-use Rattle.kept_journal.specs.Steps.{parts}
-use Rattle.kept_journal.specs.Standing.{StoresRelease, side_bytes}
+use Rattle.kept_journal.specs.Standing.{StoresRelease}
 use Rattle.kept_journal.proofs.Side.{read_more, read_all, side_is, stores_release}
 use Rattle.kept_journal.proofs.standing.read_release.Goals as goal
 

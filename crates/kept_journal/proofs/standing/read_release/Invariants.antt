@@ -1,5 +1,4 @@
 use Rattle.std.proofs.Common.{◌≡◌, take, length}
-use Rattle.std.specs.Prelude.{if◌then◌else◌}
 use Rattle.flash_pages.specs.Board.{Reads, Told}
 use Rattle.component_package.specs.mote.Sides.{pages_from}
 use Rattle.kept_journal.proofs.standing.read_release.Given as goal

@@ -1,4 +1,4 @@
-use Rattle.std.proofs.Common.{◌≡◌, Bool, ◌∙◌, sym as flip, subst}
+use Rattle.std.proofs.Common.{Bool, ◌∙◌, subst}
 use Rattle.flash_pages.proofs.Runs.{reads_reads}
 use Rattle.kept_journal.specs.Steps.{parts}
 use Rattle.kept_journal.specs.Standing.{SideSays, StoresRelease, FlagsSay, side_bytes}

@@ -9,7 +9,8 @@ use Rattle.component_store.proofs.Calls.{reads_none}
 use Rattle.kept_relocs.specs.Order.{rest_of}
 use Rattle.kept_relocs.specs.Written.{OnlyList, in_pages}
 use Rattle.kept_relocs.proofs.Only.{only_list_starts, only_list_next, set_stays}
-use Rattle.kept_relocs.proofs.Written.{HoldsFirst, told_wears, each_read, once_read, wear_read, each_program, once_program, wear_program, spares_next, pass_next, holds_next, passed_none, wears_in, wears_other}
+use Rattle.kept_relocs.proofs.Written.{HoldsFirst, told_wears, each_read, once_read, wear_read, each_program, once_program, wear_program}
+use Rattle.kept_relocs.proofs.Written.{spares_next, pass_next, holds_next, passed_none, wears_in, wears_other}
 use Rattle.kept_relocs.proofs.Listing.{pages_count}
 use Rattle.kept_relocs.proofs.Steps.{target, symbols_stays, symbols_stayed, page_is, list_is}
 use Rattle.kept_relocs.proofs.building.build.Goals as goal
@@ -35,7 +36,9 @@ returns-in_default-clause-each g c = λ s told.
 pub returns-in_default-clause-once : goal.returns-in_default-clause-once
 returns-in_default-clause-once g c =
     told_wears _ _ _
-    (λ s told. once_read 50 305 256 refl OnlyList only_list_next s _ (g.B.Board.view c.loop-page.board) (g.B.Board.view c.list_page.new.board) c.loop-page.page c.loop-page-test.true (c.loop-page.invariant.pass s told) c.list_page.ensures.reads)
+    (λ s told.
+    once_read 50 305 256 refl OnlyList only_list_next s _ (g.B.Board.view c.loop-page.board) (g.B.Board.view c.list_page.new.board) c.loop-page.page c.loop-page-test.true
+    (c.loop-page.invariant.pass s told) c.list_page.ensures.reads)
 
 pub returns-in_default-clause-wear : goal.returns-in_default-clause-wear
 returns-in_default-clause-wear g c = λ s told components holds table tells.
@@ -53,7 +56,9 @@ returns-in_default-program_if_different-clause-each g c = λ s told.
 pub returns-in_default-program_if_different-clause-once : goal.returns-in_default-program_if_different-clause-once
 returns-in_default-program_if_different-clause-once g c =
     told_wears _ _ _
-    (λ s told. once_program 50 305 256 refl OnlyList only_list_next s _ (g.B.Board.view c.loop-page.board) (g.B.Board.view c.list_page.new.board) c.loop-page.page c.loop-page-test.true (c.loop-page.invariant.pass s told) c.list_page.ensures.reads (g.B.Board.view c.program_if_different.new.board) c.list_page.new.page c.program_if_different.ensures.programs)
+    (λ s told.
+    once_program 50 305 256 refl OnlyList only_list_next s _ (g.B.Board.view c.loop-page.board) (g.B.Board.view c.list_page.new.board) c.loop-page.page
+    c.loop-page-test.true (c.loop-page.invariant.pass s told) c.list_page.ensures.reads (g.B.Board.view c.program_if_different.new.board) c.list_page.new.page c.program_if_different.ensures.programs)
 
 pub returns-in_default-program_if_different-clause-wear : goal.returns-in_default-program_if_different-clause-wear
 returns-in_default-program_if_different-clause-wear g c = λ s told components holds table tells.

@@ -22,7 +22,8 @@ invariant-loop-page g l = record {
   fault : (g.B.Board.view l.board).flash_faults ≡ (g.B.Board.view l.initial.board).flash_faults;
   pass : Told (g.B.Board.view l.initial.board) (λ s. IsPassed 50 OnlyList l.page s (g.B.Board.view l.initial.board) (g.B.Board.view l.board));
   symbols : Told (g.B.Board.view l.initial.board) (λ s. KeepsSymbols s l.symbols);
-  rest : Told (g.B.Board.view l.initial.board) (λ s. (components : List Component) → HoldsSet s l.set components → rest_of components l.cursor ≡ drop (32 * l.page) (in_image_order (sites_of components)));
+  rest : Told (g.B.Board.view l.initial.board) (λ s. (components : List Component) → HoldsSet s l.set components →
+      rest_of components l.cursor ≡ drop (32 * l.page) (in_image_order (sites_of components)));
   holds : Told (g.B.Board.view l.initial.board) (λ s. (components : List Component) → HoldsSet s l.set components → (table : List MergedSymbol) → Tells (symbol_area s) table →
       (x : State) → (g.B.Board.view l.board).state ≡ Some x → HoldsFirst 50 l.page x (target components table));
   spares : Told (g.B.Board.view l.initial.board) (λ s. (components : List Component) → HoldsSet s l.set components → (table : List MergedSymbol) → Tells (symbol_area s) table →

@@ -4,7 +4,6 @@ use Rattle.std.proofs.lemmas.List.{take_all, drop_all, drop-map, length-drop, le
 use Rattle.flash_pages.proofs.Runs.{reads_reads}
 use Rattle.avr_reloc.specs.declared.fixup.Fixup.{Fixup}
 use Rattle.component_package.specs.declared.part.Site.{Site}
-use Rattle.component_package.specs.link.Layout.{Room}
 use Rattle.component_package.specs.link.Link.{rooms_of, fixup_with}
 use Rattle.component_package.specs.link.Areas.{IsEntry, area_bytes, entry_bytes}
 use Rattle.component_package.specs.link.Pages.{address_in}
@@ -12,7 +11,7 @@ use Rattle.component_package.proofs.Lists.{all_at}
 use Rattle.component_store.proofs.Calls.{reads_none}
 use Rattle.layout_plan.specs.Plan.{IsPlan}
 use Rattle.kept_relocs.specs.Order.{rest_of, IsNext}
-use Rattle.kept_relocs.proofs.Held.{rooms_are, plan_count}
+use Rattle.kept_relocs.proofs.Held.{plan_is, plan_count}
 use Rattle.kept_relocs.proofs.Listing.{next_of}
 use Rattle.kept_relocs.proofs.building.list_page.Goals as goal
 
@@ -79,7 +78,8 @@ loop-j-preserved g c = record {
   few = λ s told components holds.
       let site = c.in-Ok.ensures.site s (c.loop-j.invariant.reads.state ∙ told) (c.loop-j.invariant.keeps s told) components holds in
       let next = subst (λ (o : Option Site). IsNext o (rest_of components c.loop-j.cursor) (rest_of components c.next.new.self)) c.in-Some.is site in
-      omega (arith, (next_of (rest_of components c.args.cursor.now) c.loop-j.j c.in-Some.site (rest_of components c.next.new.self) (sym (c.loop-j.invariant.rest s told components holds) ∙ next)).below);
+      let here = next_of (rest_of components c.args.cursor.now) c.loop-j.j c.in-Some.site (rest_of components c.next.new.self) (sym (c.loop-j.invariant.rest s told components holds) ∙ next) in
+      omega (arith, here.below);
   page = λ s told components holds symbols table tells all.
       let j : ℕ = c.loop-j.j in
       let f : Site → Fixup = fixup_with (address_in table) components in
@@ -89,7 +89,7 @@ loop-j-preserved g c = record {
       let next = subst (λ (o : Option Site). IsNext o (rest_of components c.loop-j.cursor) (rest_of components c.next.new.self)) c.in-Some.is site in
       let e : drop j r0 ≡ c.in-Some.site ∷ rest_of components c.next.new.self = sym (c.loop-j.invariant.rest s told components holds) ∙ next in
       let m = next_of (map f r0) j (f c.in-Some.site) (map f (rest_of components c.next.new.self)) (drop-map f j r0 ∙ ap (map f) e) in
-      let plan : IsPlan (rooms_of components) c.args.plan.now = subst (λ (r : List Room). IsPlan r c.args.plan.now) (sym (rooms_are s c.args.set.now components c.requires.set c.rooms.ensures holds)) c.requires.plan.plan in
+      let plan : IsPlan (rooms_of components) c.args.plan.now = plan_is s c.args.set.now components c.requires.set c.rooms.ensures holds c.args.plan.now c.requires.plan in
       let x_is : c.in-Ok-fixup_of.x ≡ f c.in-Some.site = c.in-Ok-fixup_of.ensures.fixup s (c.next.ensures.reads.state ∙ now) (c.loop-j.invariant.symbols s told symbols) components table plan tells in
       let entry : IsEntry c.in-Ok-fixup_of.x = subst IsEntry (sym x_is) (all_at IsEntry (map f r0) j (f c.in-Some.site) all m.here) in
       let long : length (take j (map f r0)) ≡ j = length-take-le j (map f r0) (omega (arith, m.below)) in

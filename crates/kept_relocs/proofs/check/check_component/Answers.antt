@@ -1,14 +1,13 @@
-use Rattle.std.proofs.Common.{◌≡◌, ℕ, ◌+◌, List, [], ◌∷◌, Option, Err, drop, refl, sym, ap, ◌∙◌, subst, arith}
+use Rattle.std.proofs.Common.{◌≡◌, ℕ, ◌+◌, [], ◌∷◌, Option, Err, drop, refl, sym, ap, ◌∙◌, subst, arith}
 use Rattle.std.proofs.lemmas.List.{drop_all}
 use Rattle.flash_pages.proofs.Runs.{reads_reads}
 use Rattle.component_package.specs.declared.part.Site.{Site}
-use Rattle.component_package.specs.link.Layout.{Room}
 use Rattle.component_package.specs.link.Link.{Cause, first_cause, sites_in, rooms_of}
 use Rattle.component_package.specs.link.Pages.{address_in}
 use Rattle.layout_plan.specs.Plan.{IsPlan}
 use Rattle.component_store.proofs.Calls.{reads_none}
 use Rattle.kept_relocs.specs.List.{CauseIs, cause_with}
-use Rattle.kept_relocs.proofs.Held.{rooms_are, has_header}
+use Rattle.kept_relocs.proofs.Held.{plan_is, has_header}
 use Rattle.kept_relocs.proofs.Coming.{length-sites}
 use Rattle.kept_relocs.proofs.Causes.{site_at, passes_on, found_first}
 use Rattle.kept_relocs.proofs.check.check_component.Goals as goal
@@ -34,12 +33,13 @@ returns-in-Err-clause-answer g c = λ fine s told symbols components holds table
     let i : ℕ = c.loop-index.index in
     let f : Site → Option Cause = cause_with (address_in table) components in
     let now = c.loop-index.invariant.reads.state ∙ told in
-    let plan : IsPlan (rooms_of components) c.args.plan.now = subst (λ (r : List Room). IsPlan r c.args.plan.now) (sym (rooms_are s c.args.set.now components c.requires.set c.rooms.ensures holds)) c.requires.plan.plan in
+    let plan : IsPlan (rooms_of components) c.args.plan.now = plan_is s c.args.set.now components c.requires.set c.rooms.ensures holds c.args.plan.now c.requires.plan in
     let reloc = c.in-Ok.ensures.answer s now (c.loop-index.invariant.keeps s told) comp (holds.each k comp here) in
     let split = site_at k comp i c.in-Ok.reloc reloc in
     let x : Site = record { component = k; index = i; reloc = c.in-Ok.reloc } in
     let said = c.in-Err.ensures.answer fine s (c.read_reloc.ensures.reads.state ∙ now) (c.loop-index.invariant.symbols s told symbols) components table plan tells in
-    let first : first_cause f (sites_in k comp) ≡ first_cause f (x ∷ drop (i + 1) (sites_in k comp)) = c.loop-index.invariant.free s told symbols components holds table tells comp here ∙ ap (first_cause f) split in
+    let first : first_cause f (sites_in k comp) ≡ first_cause f (x ∷ drop (i + 1) (sites_in k comp)) =
+    c.loop-index.invariant.free s told symbols components holds table tells comp here ∙ ap (first_cause f) split in
     subst (λ (o : Option Cause). CauseIs {A = Unit {0}} (Err c.in-Err.fault) o) (sym first) (found_first (Unit {0}) c.in-Err.fault (f x) (first_cause f (drop (i + 1) (sites_in k comp))) fine said)
 
 pub loop-index-preserved : goal.loop-index-preserved
@@ -53,11 +53,12 @@ loop-index-preserved g c = record {
       let i : ℕ = c.loop-index.index in
       let f : Site → Option Cause = cause_with (address_in table) components in
       let now = c.loop-index.invariant.reads.state ∙ told in
-      let plan : IsPlan (rooms_of components) c.args.plan.now = subst (λ (r : List Room). IsPlan r c.args.plan.now) (sym (rooms_are s c.args.set.now components c.requires.set c.rooms.ensures holds)) c.requires.plan.plan in
+      let plan : IsPlan (rooms_of components) c.args.plan.now = plan_is s c.args.set.now components c.requires.set c.rooms.ensures holds c.args.plan.now c.requires.plan in
       let reloc = c.in-Ok.ensures.answer s now (c.loop-index.invariant.keeps s told) comp (holds.each k comp here) in
       let x : Site = record { component = k; index = i; reloc = c.in-Ok.reloc } in
       let said = c.in-Ok-check_site.ensures.answer refl s (c.read_reloc.ensures.reads.state ∙ now) (c.loop-index.invariant.symbols s told symbols) components table plan tells in
-      c.loop-index.invariant.free s told symbols components holds table tells comp here ∙ passes_on f x (drop i (sites_in k comp)) (drop (i + 1) (sites_in k comp)) (site_at k comp i c.in-Ok.reloc reloc) said;
+      c.loop-index.invariant.free s told symbols components holds table tells comp here
+      ∙ passes_on f x (drop i (sites_in k comp)) (drop (i + 1) (sites_in k comp)) (site_at k comp i c.in-Ok.reloc reloc) said;
 }
 
 pub returns-clause-answer : goal.returns-clause-answer

@@ -25,7 +25,10 @@ loop-low-preserved-then-ended g c = record {
   reads = reads_reads _ _ _ c.loop-low.invariant.reads c.has_ended.ensures.reads;
   fault = c.in-Ok.ensures.faults ∙ c.loop-low.invariant.fault;
   keeps = λ s told. c.in-Ok.ensures.keeps s (c.loop-low.invariant.reads.state ∙ told) (c.loop-low.invariant.keeps s told);
-  low = λ s told xs l. let e = ended_before xs 0 (256 * c.args.page) _ l.rise (sym (c.in-Ok.ensures.ended s (c.loop-low.invariant.reads.state ∙ told) (c.loop-low.invariant.keeps s told) xs l) ∙ c.if-ended.true) in omega (arith, e);
+  low = λ s told xs l.
+      let ended = c.in-Ok.ensures.ended s (c.loop-low.invariant.reads.state ∙ told) (c.loop-low.invariant.keeps s told) xs l in
+      let e = ended_before xs 0 (256 * c.args.page) _ l.rise (sym ended ∙ c.if-ended.true) in
+      omega (arith, e);
   high = c.loop-low.invariant.high;
 }
 

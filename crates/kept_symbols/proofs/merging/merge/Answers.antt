@@ -1,17 +1,15 @@
-use Rattle.std.proofs.Common.{◌≡◌, ℕ, ◌+◌, ◌<◌, ◌≤◌, false, List, Some, Ok, Err, sym, subst, ap, ◌∙◌, arith}
+use Rattle.std.proofs.Common.{◌≡◌, ℕ, ◌+◌, ◌<◌, ◌≤◌, false, List, Some, Err, sym, subst, ap, ◌∙◌, arith}
 use Rattle.std.proofs.lemmas.Option.{same_Some}
 use Rattle.flash_pages.specs.State.{State, Ext, with_page}
 use Rattle.flash_pages.specs.Board.{View, Reads, Programs}
 use Rattle.flash_pages.specs.Moments.{LeavesOnly}
 use Rattle.flash_pages.proofs.Runs.{starts, weaker, reads, programs, uses_uses}
-use Rattle.component_package.specs.packages.Component.{Component}
 use Rattle.component_package.specs.link.Link.{room_cause}
 use Rattle.external_flash.specs.Areas.{Differs}
 use Rattle.kept_symbols.specs.Stored.{symbol_area, stored_rooms}
 use Rattle.kept_symbols.specs.Answers.{is_fault}
 use Rattle.kept_symbols.specs.Changes.{OnlySymbols}
-use Rattle.kept_symbols.specs.Walks.{IsAt}
-use Rattle.kept_symbols.specs.Records.{FillIs, HasMerged}
+use Rattle.kept_symbols.specs.Records.{HasMerged}
 use Rattle.kept_symbols.proofs.HeldSet.{held_set}
 use Rattle.kept_symbols.proofs.Changed.{symbols_start, symbols_program, IsWornTo, WornTo, worn_none, worn_reads, worn_more, worn_so, worn_failed, holds_still}
 use Rattle.kept_symbols.proofs.Merged.{plan_room, merged_none, merged_more, merged_all, merge_ends}
