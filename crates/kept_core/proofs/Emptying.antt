@@ -39,7 +39,8 @@ filled_all these l n full long =
 -- how many pages an empty board has, and which they are
 length-formatted : (page : List ℕ) → length (formatted_ext page) ≡ 2048
 unfolding formatted_ext
-length-formatted page = omega (arith, length-append (page ∷ replicate 7 (replicate 256 0) ++ empty_page ∷ []) (replicate 2039 (replicate {A = ℕ} 256 0)), length-replicate 2039 (replicate {A = ℕ} 256 0))
+length-formatted page =
+    omega (arith, length-append (page ∷ replicate 7 (replicate 256 0) ++ empty_page ∷ []) (replicate 2039 (replicate {A = ℕ} 256 0)), length-replicate 2039 (replicate {A = ℕ} 256 0))
 
 length-blank : length blank_prog ≡ 480
 unfolding blank_prog

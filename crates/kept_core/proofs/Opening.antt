@@ -119,7 +119,8 @@ module _ (t : Mote) (mote : IsMote t) where
   comes_there m coming whole =
       let next : ComesNext t.current.release (Some m) = subst (ComesNext t.current.release) coming mote.incoming in
       let stored : IsStored m = subst IsStored (sym next.3) (slots_are_found.stored t.current.release next.0 mote.current next.1) in
-      let over : AllByRecursion (IsOver t.current.release) m.placed = subst (λ (n : StoredRelease). AllByRecursion (IsOver t.current.release) n.placed) (sym next.3) (all_over t.current.release next.0) in
+      let over : AllByRecursion (IsOver t.current.release) m.placed =
+      subst (λ (n : StoredRelease). AllByRecursion (IsOver t.current.release) n.placed) (sym next.3) (all_over t.current.release next.0) in
       coming_is_faultless.whole t.current t.inbox m (rooms m.placed stored.entries stored.slots) (helds m.placed over) whole
 
 -- ---- what was opened
@@ -155,7 +156,9 @@ module _ (s : State) (t : Mote) (m n : SlotManifest) (sizes : IsState s) (opens 
         record {
           release = next.0;
           is = next.1;
-          slots = next.3 ∙ ap (λ (x : StoredRelease). slots_for x next.0) (sym opens.current) ∙ sym (same_slots_for (stored_of m) next.0) ∙ ap (λ (x : StoredRelease). slots_for x next.0) (sym release);
+          slots =
+              next.3 ∙ ap (λ (x : StoredRelease). slots_for x next.0) (sym opens.current) ∙ sym (same_slots_for (stored_of m) next.0)
+              ∙ ap (λ (x : StoredRelease). slots_for x next.0) (sym release);
         }
 
     coming_is : coming_set (chosen_of c (kept_set (tables_of s.ext) s.prog (stored_of m))) (inbox_of s.ext) (stored_of n) ≡ coming_set t.current t.inbox (stored_of n)

@@ -22,7 +22,7 @@ use Rattle.component_package.specs.mote.Frames.{Frame}
 use Rattle.kept_store.specs.declared.set.StoredSet.{StoredSet}
 use Rattle.component_store.specs.Pieces.{piece_place}
 use Rattle.kept_laws.proofs.Says.{image_is_the_chosens}
-use Rattle.kept_boot.specs.Boots.{boot_pages, fresh_tables, chosen_entries, Lags, WearsProgram}
+use Rattle.kept_boot.specs.Boots.{boot_pages, installed_pages, fresh_tables, chosen_entries, Lags, WearsProgram}
 use Rattle.kept_journal.specs.declared.standing.Standing.{Standing}
 use Rattle.kept_core.specs.Frames.{link_frame}
 use Rattle.kept_core.specs.Links.{comes_of, IsLinking}
@@ -38,7 +38,7 @@ use Rattle.kept_symbols.specs.Changes.{OnlySymbols, IsWorn, symbol_pages}
 use Rattle.kept_relocs.specs.Written.{IsOther, IsIn, in_pages, OnlyList}
 use Rattle.kept_stage.specs.Staged.{OnlyStaged}
 use Rattle.kept_core.specs.Serving.{BootsAlike}
-use Rattle.kept_core.specs.Wear.{is_written, IsSpared, SparesList, SparesStaged, IsIdle, WorksIn, Wears, WearsWork, WearsRead}
+use Rattle.kept_core.specs.Wear.{is_written, is_table, is_watched, IsSpared, SparesList, SparesStaged, IsIdle, WorksIn, Wears, WearsWork, WearsRead}
 
 -- a question mark's exit is no answer
 pub not_ok : {A E : Type 0} (Q : E → Type 0) (r : Result A E) → IsErrAnd r Q → is_ok r ≡ true → ⊥
@@ -61,7 +61,7 @@ alike_then p q r a b = record {
 
 -- ---- a read, and nothing
 
-symbol_written : (page : ℕ) → page < 32 → is_written (Ext (18 + page)) ≡ true
+symbol_written : (page : ℕ) → page < 32 → is_watched (Ext (18 + page)) ≡ true
 symbol_written page lt = grind (arith, nat_tests)
 
 pub idle_starts : (v : View) → IsIdle v v
@@ -167,7 +167,7 @@ merge_works fault answered calm s old new told run wear = record {
 -- ---- a gate
 
 -- its page is none of those that are written
-gate_out : (stage : Stage) (place : Place) → is_written place ≡ true → one_page (stage_gate stage) place ≡ false
+gate_out : (stage : Stage) (place : Place) → is_watched place ≡ true → one_page (stage_gate stage) place ≡ false
 gate_out stage (Prog page) written = refl
 gate_out stages.Symbols (Ext page) written = grind (arith, nat_tests)
 gate_out stages.Relocs (Ext page) written = grind (arith, nat_tests)
@@ -261,10 +261,10 @@ stage_spares set pages s old new is told wear other page is_other lt same = wear
     let number : page ≡ o.page = ext_number 306 page o.page o.is in
     o.differs (same ∙ ap (λ (l : List (List ℕ)). get_or l page []) (pages_same set other pages is_other is) ∙ ap (λ (k : ℕ). get_or pages k []) number))
 
-list_written : (page : ℕ) → page < 256 → is_written (Ext (50 + page)) ≡ true
+list_written : (page : ℕ) → page < 256 → is_watched (Ext (50 + page)) ≡ true
 list_written page lt = grind (arith, nat_tests)
 
-staged_written : (page : ℕ) → page < 480 → is_written (Ext (306 + page)) ≡ true
+staged_written : (page : ℕ) → page < 480 → is_watched (Ext (306 + page)) ≡ true
 staged_written page lt = grind (arith, nat_tests)
 
 -- nothing was programmed
@@ -316,12 +316,19 @@ list_unmade set a s old new w table page is lt same =
 
 -- ---- frames
 
+watched : (place : Place) → is_written place ≡ true → is_watched place ≡ true
+watched place written = ap (λ (b : Bool). b || is_table place) written
+
+table_watched : (page : ℕ) → 1410 ≤ page → page ≤ 2033 → is_watched (Ext page) ≡ true
+table_watched page low high = grind (arith, nat_tests)
+
 -- nothing that is written was programmed
 pub idle_wears : (t : Mote) (f : Frame) (answered : Bool) (z : State) (old new : View) → IsIdle old new → Wears t f answered z old new
 idle_wears t f answered z old new idle = record {
-  once = λ place written. omega (arith, idle place written);
-  areas = λ page other low high. idle (Ext page) (area_written page low high);
+  once = λ place written. omega (arith, idle place (watched place written));
+  areas = λ page other low high. idle (Ext page) (watched (Ext page) (area_written page low high));
   program = λ page other. idle (Prog page) refl;
+  tables = λ page other low high. idle (Ext page) (table_watched page low high);
   list = λ m coming. list_idle (coming_set t.current t.inbox m) z old new idle;
   staged = λ m coming. staged_idle (coming_set t.current t.inbox m) z old new idle;
   booted = λ pages page is same. idle (Prog page) refl;
@@ -346,6 +353,7 @@ read_wears t f answered z old mid new r w = record {
   once = λ place written. omega (arith, w.once place written, r.programs place);
   areas = λ page other low high. w.areas page other low high ∙ r.programs (Ext page);
   program = λ page other. w.program page other ∙ r.programs (Prog page);
+  tables = λ page other low high. w.tables page other low high ∙ r.programs (Ext page);
   list = λ m coming table page is lt same. w.list m coming table page is lt same ∙ r.programs (Ext (50 + page));
   staged = λ m coming pages page is lt same. w.staged m coming pages page is lt same ∙ r.programs (Ext (306 + page));
   booted = λ pages page is same. w.booted pages page is same ∙ r.programs (Prog page);
@@ -356,9 +364,10 @@ read_wears t f answered z old mid new r w = record {
 pub link_wears : (t : Mote) (set : StoredSet) (answered : Bool) (z : State) (old new : View) → IsLinking t set z → WorksIn 18 785 answered z old new
     → SparesList (comes_of t set) z old new → SparesStaged (comes_of t set) z old new → Wears t link_frame answered z old new
 link_wears t set answered z old new linking work list staged = record {
-  once = work.once;
+  once = λ place written. work.once place (watched place written);
   areas = λ page other low high. absurd (other refl);
   program = λ page other. work.spared (Prog page) refl refl;
+  tables = λ page other low high. work.spared (Ext page) (table_watched page low high) (let out : ext_pages 18 785 (Ext page) ≡ false = grind (arith, nat_tests) in out);
   list = λ m coming. subst (λ (c : List Component). SparesList c z old new) (set_is m coming) list;
   staged = λ m coming. subst (λ (c : List Component). SparesStaged c z old new) (set_is m coming) staged;
   booted = λ pages page is same. work.spared (Prog page) refl refl;
@@ -394,6 +403,8 @@ boot_wears t answered z P n old new stands takes wear = record {
   once = once;
   areas = λ page other low high. spared page low high;
   program = λ page. ⊎_elim (λ other. absurd (other refl)) (λ rests. wear.none page (λ lags. false≢true (sym rests ∙ stands.mote.standing ∙ lags.0)));
+  tables = λ page. ⊎_elim (λ other low high. absurd (other refl)) (λ rests low high.
+      takes.wears (Ext page) (ap (λ (b : Bool). b && installed_pages (chosen_entries (parts z)) (Ext page)) (sym stands.mote.standing ∙ rests)));
   list = λ m coming table page is lt same. spared (50 + page) (omega arith) (omega (arith, lt));
   staged = λ m coming pages page is lt same. spared (306 + page) (omega arith) (omega (arith, lt));
   booted = λ pages page is same. wear.none page (λ lags.
@@ -413,10 +424,10 @@ boot_wears t answered z P n old new stands takes wear = record {
         omega (arith, spared page low high)
 
 -- steps of the journal and pieces
-pub takes_idle : (P : State → Type 0) (may : Place → Bool) (n : ℕ) (old new : View) → ((place : Place) → is_written place ≡ true → may place ≡ false) → Takes P may n old new → IsIdle old new
+pub takes_idle : (P : State → Type 0) (may : Place → Bool) (n : ℕ) (old new : View) → ((place : Place) → is_watched place ≡ true → may place ≡ false) → Takes P may n old new → IsIdle old new
 takes_idle P may n old new out takes place written = takes.wears place (out place written)
 
-pub low_pages : (first last : ℕ) → last ≤ 17 → (place : Place) → is_written place ≡ true → ext_pages first last place ≡ false
+pub low_pages : (first last : ℕ) → last ≤ 17 → (place : Place) → is_watched place ≡ true → ext_pages first last place ≡ false
 low_pages first last low (Prog page) written = refl
 low_pages first last low (Ext page) written = grind (arith, nat_tests)
 
@@ -424,27 +435,31 @@ side_low : (b : Bool) (page : ℕ) → 18 ≤ page → side_pages b (Ext page) �
 side_low true page low = grind (arith, nat_tests)
 side_low false page low = grind (arith, nat_tests)
 
-pub manifest_low : (p : Parts) (place : Place) → is_written place ≡ true → manifest_pages p place ≡ false
+pub manifest_low : (p : Parts) (place : Place) → is_watched place ≡ true → manifest_pages p place ≡ false
 manifest_low p (Prog page) written = refl
 manifest_low p (Ext page) written =
     let low : 18 ≤ page = grind (arith, nat_tests) in
     let gates : (leb 1 page && leb page 4) ≡ false = grind (arith, nat_tests) in
     ap (λ (b : Bool). b || side_pages (not (is_on_b p)) (Ext page)) gates ∙ side_low (not (is_on_b p)) page low
 
-go_low_by : (b : Bool) (place : Place) → is_written place ≡ true → one_page (cond b 5 6) place ≡ false
+go_low_by : (b : Bool) (place : Place) → is_watched place ≡ true → one_page (cond b 5 6) place ≡ false
 go_low_by b (Prog page) written = refl
 go_low_by true (Ext page) written = grind (arith, nat_tests)
 go_low_by false (Ext page) written = grind (arith, nat_tests)
 
-pub go_low : (p : Parts) (place : Place) → is_written place ≡ true → one_page (other_go p) place ≡ false
+pub go_low : (p : Parts) (place : Place) → is_watched place ≡ true → one_page (other_go p) place ≡ false
 go_low p place written = go_low_by (is_on_b p) place written
 
-pub piece_idle : (needed : State → Type 0) (slot page : ℕ) (s : State) (old new : View) → old.state ≡ Some s → Programs needed (piece_place slot page) old new → IsIdle old new
-piece_idle needed slot page s old new told program place written = program.others s place told (apart place written)
+pub piece_idle : (needed : State → Type 0) (slot page : ℕ) (s : State) (old new : View) → slot < 16 → page < 39 → old.state ≡ Some s → Programs needed (piece_place slot page) old new → IsIdle old new
+piece_idle needed slot page s old new small within told program place written = program.others s place told (apart place written)
   where
-    apart : (place : Place) → is_written place ≡ true → place ≢ piece_place slot page
+    outside : (p : ℕ) → 786 ≤ p → p ≤ 1409 → is_watched (Ext p) ≡ true → ⊥
+    outside p low high written = let none : is_watched (Ext p) ≡ false = grind (arith, nat_tests) in false≢true (sym none ∙ written)
+
+    apart : (place : Place) → is_watched place ≡ true → place ≢ piece_place slot page
     apart (Prog p) written e = absurd (let q : ⊥ = cc in q)
     apart (Ext p) written e =
-        let high : p ≤ 785 = grind (arith, nat_tests) in
         let same : p ≡ page_of_slot slot page = cc in
-        omega (arith, same, high)
+        let low : 786 ≤ p = omega (arith, same) in
+        let high : p ≤ 1409 = omega (arith, same, small, within) in
+        outside p low high written

@@ -1,5 +1,5 @@
 -- How often the work of a frame programs the pages that LINK and BOOT write.
-use Rattle.std.specs.Prelude.{◌≡◌, ◌⊎◌, ℕ, ◌+◌, ◌<◌, ◌≤◌, ◌&&◌, nat_le, Bool, true, false, List, [], slice_index_or, Some}
+use Rattle.std.specs.Prelude.{◌≡◌, ◌⊎◌, ℕ, ◌+◌, ◌<◌, ◌≤◌, ◌&&◌, ◌||◌, nat_le, Bool, true, false, List, [], slice_index_or, Some}
 use Rattle.flash_pages.specs.State.{State, Place, Prog, Ext, page_at, ext_pages}
 use Rattle.flash_pages.specs.Board.{View, Told}
 use Rattle.component_package.specs.packages.Component.{Component}
@@ -14,10 +14,19 @@ use Rattle.kept_journal.specs.Steps.{parts, Stands}
 use Rattle.kept_journal.specs.Standing.{IsOfMote, IsStanding}
 use Rattle.kept_core.specs.Serving.{BootsAlike}
 
--- the pages that LINK and BOOT write: program flash, and the areas of merged symbols, of the relocation list and of the staged image
+-- the pages that LINK and BOOT write but for table slots: program flash, and the areas of merged symbols, of the relocation list and of the staged image
 abbrev pub is_written : Place → Bool
 is_written (Prog page) = true
 is_written (Ext page) = nat_le 18 page && nat_le page 785
+
+-- the pages of table slots
+abbrev pub is_table : Place → Bool
+is_table (Prog page) = false
+is_table (Ext page) = nat_le 1410 page && nat_le page 2033
+
+-- what only LINK and BOOT program
+abbrev pub is_watched : Place → Bool
+is_watched place = is_written place || is_table place
 
 -- the page was not programmed
 abbrev pub IsSpared : Place → View → View → Type 0
@@ -49,6 +58,8 @@ pub record Wears (t : Mote) (f : Frame) (answered : Bool) (z : State) (old new :
   -- an area by LINK alone, and program flash by BOOT alone, where a commit stands
   pub areas : (page : ℕ) → (f.kind ≡ 3 → ⊥) → 18 ≤ page → page ≤ 785 → IsSpared (Ext page) old new
   pub program : (page : ℕ) → (f.kind ≡ 5 → ⊥) ⊎ (t.standing ≡ false) → IsSpared (Prog page) old new
+  -- a table slot by BOOT alone, where a commit stands
+  pub tables : (page : ℕ) → (f.kind ≡ 5 → ⊥) ⊎ (t.standing ≡ false) → 1410 ≤ page → page ≤ 2033 → IsSpared (Ext page) old new
   -- and none that is already what the set that is linked, or booted, has there
   pub list : (m : StoredRelease) → t.incoming ≡ Some m → SparesList (coming_set t.current t.inbox m) z old new
   pub staged : (m : StoredRelease) → t.incoming ≡ Some m → SparesStaged (coming_set t.current t.inbox m) z old new
@@ -66,15 +77,15 @@ WearsRead answered a f old new = (z : State) (t : Mote) → old.state ≡ Some z
 
 -- none of these pages was programmed
 abbrev pub IsIdle : View → View → Type 0
-IsIdle old new = (place : Place) → is_written place ≡ true → IsSpared place old new
+IsIdle old new = (place : Place) → is_watched place ≡ true → IsSpared place old new
 
 -- A part of LINK on any board that tells its state, from s: of these pages it changed and programmed those from `first` to `last` alone, each once at
 -- most. Where it was answered, what boots is as it was, and each page of symbols that holds what it held was not programmed.
 pub record WorksIn (first last : ℕ) (answered : Bool) (s : State) (old new : View) : Type 0 where
   pub end : State
   pub told : new.state ≡ Some end
-  pub same : (place : Place) → is_written place ≡ true → ext_pages first last place ≡ false → page_at end place ≡ page_at s place
-  pub spared : (place : Place) → is_written place ≡ true → ext_pages first last place ≡ false → IsSpared place old new
-  pub once : (place : Place) → is_written place ≡ true → new.programs place ≤ old.programs place + 1
+  pub same : (place : Place) → is_watched place ≡ true → ext_pages first last place ≡ false → page_at end place ≡ page_at s place
+  pub spared : (place : Place) → is_watched place ≡ true → ext_pages first last place ≡ false → IsSpared place old new
+  pub once : (place : Place) → is_watched place ≡ true → new.programs place ≤ old.programs place + 1
   pub boots : answered ≡ true → BootsAlike (parts s) (parts end)
   pub symbols : answered ≡ true → SparesSymbols s old new

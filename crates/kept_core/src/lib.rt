@@ -1,4 +1,5 @@
-//! The mote's side of the line: frames in, one line out for each, and what a frame does to the flashes.
+//! The mote's side of the line over the second layout of external flash, in which code is kept once: frames in, one line out for each, and what a
+//! frame does to the flashes.
 //!
 //! A session boots and then reads frames from a [`Board`](flash_pages::Board) until END, the end of the input or a fault. Nothing here takes memory.
 #![tactic(auto)]

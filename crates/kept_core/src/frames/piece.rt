@@ -57,7 +57,7 @@ fn is_failed(fault: StoreFault) -> bool
     }
 }
 
-/// Stores a page of a package that comes in in its inbox slot, if its entry is fresh and the page isn't there already.
+/// Stores a page of a package that comes in, in the inbox slot of its entry, if the entry is fresh and the page isn't there already.
 pub(crate) fn serve_piece<B: Board>(
     board: &mut B,
     standing: &Standing,

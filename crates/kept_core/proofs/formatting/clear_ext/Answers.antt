@@ -16,7 +16,8 @@ pub loop-page-preserved : goal.loop-page-preserved
 loop-page-preserved g c = record {
   state = λ s told.
       let before = c.loop-page.invariant.state s told in
-      c.in_ok-ext_program.ensures.ok.state (cleared c.loop-page.page s) before ∙ ap Some (cleared_more s c.loop-page.page _ ((g.B.Board.view c.args.board.now).sizes s told) c.loop-page-test.true c.empty_board_page.ensures);
+      c.in_ok-ext_program.ensures.ok.state (cleared c.loop-page.page s) before
+      ∙ ap Some (cleared_more s c.loop-page.page _ ((g.B.Board.view c.args.board.now).sizes s told) c.loop-page-test.true c.empty_board_page.ensures);
   each = λ s told. clears_more c.loop-page.page _ _ _ s (c.loop-page.invariant.each s told) (c.loop-page.invariant.state s told) c.ext_program.ensures.programs;
   uses = uses_uses _ _ _ c.loop-page.invariant.uses c.ext_program.ensures.programs.uses;
   fault = c.in_ok-ext_program.ensures.faults ∙ c.loop-page.invariant.fault;

@@ -41,7 +41,9 @@ pub returns-in-Err-Fault-clause-wear : goal.returns-in-Err-Fault-clause-wear
 returns-in-Err-Fault-clause-wear g c z t told stands = boot_wears t false z (Step any_mote (boot_pages (parts z)) z) (boot_programs (is_pending (parts z))) (g.B.Board.view c.args.board.now) (g.B.Board.view c.boot.new.board) stands (c.boot.ensures.each z told) (c.boot.ensures.wear z told)
 
 pub returns-in-Ok-clause-stays : goal.returns-in-Ok-clause-stays
-returns-in-Ok-clause-stays g c z told = stays_becomes (booted z) any_mote boots z (g.B.Board.view c.boot.new.board) (c.in-Ok.ensures.ok z told) (booted_unformatted z (let long = ((g.B.Board.view c.args.board.now).sizes z told).ext in omega (arith, long)))
+returns-in-Ok-clause-stays g c z told =
+    let long = ((g.B.Board.view c.args.board.now).sizes z told).ext in
+    stays_becomes (booted z) any_mote boots z (g.B.Board.view c.boot.new.board) (c.in-Ok.ensures.ok z told) (booted_unformatted z (omega (arith, long)))
 
 pub returns-in-Err-Unformatted-clause-stays : goal.returns-in-Err-Unformatted-clause-stays
 returns-in-Err-Unformatted-clause-stays g c z told = stays_here z (g.B.Board.view c.boot.new.board) ((c.in-Err-Unformatted.ensures.refused (ap (λ (e : BootFault). is_unformatted (Err e)) c.in-Err-Unformatted.field-0-is)).state ∙ told)

@@ -248,13 +248,25 @@ returns-in_err-unlink-clause-idle g c z told = idle_then (g.B.Board.view c.args.
 
 pub returns-in-Ok-put_piece-clause-idle : goal.returns-in-Ok-put_piece-clause-idle
 returns-in-Ok-put_piece-clause-idle g c z told =
+    let three = c.if-payload-lt3.false in
+    let p = placed_of c.in-Some-entry_at.stored in
+    let whole = take_rest c.args.payload.now 2 in
+    let good : piece_fault p.entry.length (slice_index c.args.payload.now 1) (length (drop 2 c.args.payload.now)) ≡ None = ap (λ (b : List ℕ). piece_fault p.entry.length (slice_index c.args.payload.now 1) (length b)) (sym whole) ∙ sym (c.in-Ok.ensures.refused refl) in
+    let low = c.in-Some-entry_at.ensures.slot in
+    let within = page_below p.entry.length (slice_index c.args.payload.now 1) (length (drop 2 c.args.payload.now)) c.in-Some-entry_at.ensures.entry.most good in
     let done = c.in_ok-unlink.ensures.ok z (c.piece_differs.ensures.reads.state ∙ told) in
-    idle_then (g.B.Board.view c.args.board.now) (g.B.Board.view c.piece_differs.new.board) (g.B.Board.view c.put_piece.new.board) (idle_reads (g.B.Board.view c.args.board.now) (g.B.Board.view c.piece_differs.new.board) c.piece_differs.ensures.reads) (idle_then (g.B.Board.view c.piece_differs.new.board) (g.B.Board.view c.unlink.new.board) (g.B.Board.view c.put_piece.new.board) (takes_idle (Step any_mote (ext_pages 2 4) z) (ext_pages 2 4) 3 (g.B.Board.view c.piece_differs.new.board) (g.B.Board.view c.unlink.new.board) (low_pages 2 4 (omega arith)) (c.unlink.ensures.each z (c.piece_differs.ensures.reads.state ∙ told))) (piece_idle _ _ _ done.end (g.B.Board.view c.unlink.new.board) (g.B.Board.view c.put_piece.new.board) done.told c.put_piece.ensures.programs))
+    idle_then (g.B.Board.view c.args.board.now) (g.B.Board.view c.piece_differs.new.board) (g.B.Board.view c.put_piece.new.board) (idle_reads (g.B.Board.view c.args.board.now) (g.B.Board.view c.piece_differs.new.board) c.piece_differs.ensures.reads) (idle_then (g.B.Board.view c.piece_differs.new.board) (g.B.Board.view c.unlink.new.board) (g.B.Board.view c.put_piece.new.board) (takes_idle (Step any_mote (ext_pages 2 4) z) (ext_pages 2 4) 3 (g.B.Board.view c.piece_differs.new.board) (g.B.Board.view c.unlink.new.board) (low_pages 2 4 (omega arith)) (c.unlink.ensures.each z (c.piece_differs.ensures.reads.state ∙ told))) (piece_idle _ _ _ done.end (g.B.Board.view c.unlink.new.board) (g.B.Board.view c.put_piece.new.board) low within done.told c.put_piece.ensures.programs))
 
 pub returns-in-Err-put_piece-clause-idle : goal.returns-in-Err-put_piece-clause-idle
 returns-in-Err-put_piece-clause-idle g c z told =
+    let three = c.if-payload-lt3.false in
+    let p = placed_of c.in-Some-entry_at.stored in
+    let whole = take_rest c.args.payload.now 2 in
+    let good : piece_fault p.entry.length (slice_index c.args.payload.now 1) (length (drop 2 c.args.payload.now)) ≡ None = ap (λ (b : List ℕ). piece_fault p.entry.length (slice_index c.args.payload.now 1) (length b)) (sym whole) ∙ sym (c.in-Ok.ensures.refused refl) in
+    let low = c.in-Some-entry_at.ensures.slot in
+    let within = page_below p.entry.length (slice_index c.args.payload.now 1) (length (drop 2 c.args.payload.now)) c.in-Some-entry_at.ensures.entry.most good in
     let done = c.in_ok-unlink.ensures.ok z (c.piece_differs.ensures.reads.state ∙ told) in
-    idle_then (g.B.Board.view c.args.board.now) (g.B.Board.view c.piece_differs.new.board) (g.B.Board.view c.put_piece.new.board) (idle_reads (g.B.Board.view c.args.board.now) (g.B.Board.view c.piece_differs.new.board) c.piece_differs.ensures.reads) (idle_then (g.B.Board.view c.piece_differs.new.board) (g.B.Board.view c.unlink.new.board) (g.B.Board.view c.put_piece.new.board) (takes_idle (Step any_mote (ext_pages 2 4) z) (ext_pages 2 4) 3 (g.B.Board.view c.piece_differs.new.board) (g.B.Board.view c.unlink.new.board) (low_pages 2 4 (omega arith)) (c.unlink.ensures.each z (c.piece_differs.ensures.reads.state ∙ told))) (piece_idle _ _ _ done.end (g.B.Board.view c.unlink.new.board) (g.B.Board.view c.put_piece.new.board) done.told c.put_piece.ensures.programs))
+    idle_then (g.B.Board.view c.args.board.now) (g.B.Board.view c.piece_differs.new.board) (g.B.Board.view c.put_piece.new.board) (idle_reads (g.B.Board.view c.args.board.now) (g.B.Board.view c.piece_differs.new.board) c.piece_differs.ensures.reads) (idle_then (g.B.Board.view c.piece_differs.new.board) (g.B.Board.view c.unlink.new.board) (g.B.Board.view c.put_piece.new.board) (takes_idle (Step any_mote (ext_pages 2 4) z) (ext_pages 2 4) 3 (g.B.Board.view c.piece_differs.new.board) (g.B.Board.view c.unlink.new.board) (low_pages 2 4 (omega arith)) (c.unlink.ensures.each z (c.piece_differs.ensures.reads.state ∙ told))) (piece_idle _ _ _ done.end (g.B.Board.view c.unlink.new.board) (g.B.Board.view c.put_piece.new.board) low within done.told c.put_piece.ensures.programs))
 
 pub returns-in-Ok-put_piece-clause-formatted : goal.returns-in-Ok-put_piece-clause-formatted
 returns-in-Ok-put_piece-clause-formatted g c z told =
