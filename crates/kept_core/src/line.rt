@@ -1,6 +1,6 @@
 //! The lines of answers.
 
-ghost use Rattle.std.specs.Prelude.{◌≡◌, ◌+◌, ◌*◌, ◌<◌, ◌≤◌, ◌++◌, ◌∷◌, take, length, decimal};
+ghost use Rattle.std.specs.Prelude.{◌≡◌, ◌+◌, ◌*◌, ◌≤◌, ◌++◌, ◌∷◌, take, length, decimal};
 ghost use Rattle.component_package.specs.mote.Lines.{words_line, line_of, spaced};
 
 use component_package::Answer;

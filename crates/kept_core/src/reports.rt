@@ -1,6 +1,6 @@
 //! What a board tells of itself: the commands that change no flash.
 
-ghost use Rattle.std.specs.Prelude.{◌≡◌, ◌<◌, [], true, OnOk, length, slice_index_or};
+ghost use Rattle.std.specs.Prelude.{◌≡◌, ◌<◌, [], true, OnOk, slice_index_or};
 ghost use Rattle.std.specs.List.{concat};
 ghost use Rattle.flash_pages.specs.Board.{Reads, Told, FlashFaults};
 ghost use Rattle.flash_pages.specs.Moments.{LeavesOnly};

@@ -1,6 +1,6 @@
 //! Sending a line whole, in whatever pieces the board takes.
 
-ghost use Rattle.std.specs.Prelude.{◌≡◌, ◌<◌, ◌≤◌, ◌++◌, [], length, List, ℕ, OnOk, OnErr, Some};
+ghost use Rattle.std.specs.Prelude.{◌≡◌, ◌<◌, [], length, List, ℕ, OnOk, OnErr, Some};
 ghost use Rattle.flash_pages.specs.State.{State, SendsPart};
 ghost use Rattle.flash_pages.specs.Board.{Rose, UsesLine};
 ghost use Rattle.component_package.specs.mote.Lines.{line_of};

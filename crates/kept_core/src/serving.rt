@@ -1,6 +1,6 @@
 //! What a frame is answered, and what it does to the flashes.
 
-ghost use Rattle.std.specs.Prelude.{◌≡◌, ◌↔◌, ◌≤◌, false, length, IfOk};
+ghost use Rattle.std.specs.Prelude.{◌≡◌, ◌≤◌, false, length, IfOk};
 ghost use Rattle.std.specs.Result.{is_ok};
 ghost use Rattle.flash_pages.specs.Board.{UsesFlash, FlashFaults, Told};
 ghost use Rattle.component_package.specs.mote.Machine.{is_bad_frame};

@@ -1,10 +1,10 @@
 //! LINK.
 
-ghost use Rattle.std.specs.Prelude.{length, List, true, false, OnOk, ◌≡◌, ◌≤◌, ℕ, IfOk, IfErr, IfSome, Some, None, Option};
-ghost use Rattle.std.specs.Result.{result_err, is_ok};
+ghost use Rattle.std.specs.Prelude.{length, List, true, false, OnOk, ◌≡◌, ◌≤◌, IfOk, IfErr, IfSome, Some, None, Option};
+ghost use Rattle.std.specs.Result.{is_ok};
 ghost use Rattle.flash_pages.specs.State.{State};
 ghost use Rattle.flash_pages.specs.Board.{Reads, UsesFlash, FlashFaults, FlashFaultsWhere, Told};
-ghost use Rattle.component_package.specs.link.Link.{rooms_of, room_cause, symbols_cause, relocations_cause};
+ghost use Rattle.component_package.specs.link.Link.{rooms_of, room_cause};
 ghost use Rattle.kept_definitions.specs.Machine.{Mote};
 ghost use Rattle.component_package.specs.mote.Sides.{sym, rel, img};
 ghost use Rattle.component_package.specs.packages.Component.{Component};

@@ -1,8 +1,8 @@
 //! MANIFEST.
 
-ghost use Rattle.std.specs.Prelude.{◌≡◌, true, ◌≤◌, ◌<◌, ◌^◌, ◌==◌, ◌&&◌, IfOk, Some, length, map};
+ghost use Rattle.std.specs.Prelude.{◌≡◌, true, ◌≤◌, ◌<◌, ◌==◌, ◌&&◌, IfOk, Some, length, map};
 ghost use Rattle.flash_pages.specs.Board.{UsesFlash, FlashFaults, Told};
-ghost use Rattle.component_package.specs.packages.Manifest.{IsManifest, release_of};
+ghost use Rattle.component_package.specs.packages.Manifest.{release_of};
 ghost use Rattle.kept_manifests.specs.Slots.{IsSlotManifest, stored_of};
 ghost use Rattle.kept_definitions.specs.Machine.{held_count, is_incoming};
 ghost use Rattle.component_package.specs.mote.Machine.{is_same_entries};
