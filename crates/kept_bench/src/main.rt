@@ -102,7 +102,9 @@ fn print_ratio(rt: &HostRuntime, reads: u32, pages: u32) -> Result<()> {
     let hundredths = (100 * reads as u64).checked_div(pages as u64).unwrap_or(0);
     let whole = hundredths / 100;
     let rest = hundredths % 100;
-    println!(rt; "  all behind the opening: {reads} reads of {pages} pages, {whole}.{rest:02} a page")?;
+    println!(rt;
+        "  all behind the opening: {reads} reads of {pages} pages, {whole}.{rest:02} a page"
+    )?;
     Ok(())
 }
 
@@ -197,7 +199,10 @@ fn print_open_time(rt: &HostRuntime, board: &mut BenchBoard, releases: &Releases
     requires incoming { IsSlotManifest releases.now.incoming }
 {
     let seconds = time_open(rt, board, releases)?;
-    eprintln!(rt; "  open_current and open_set: {:.0} microseconds", seconds * 1e6)?;
+    eprintln!(rt;
+        "  open_current and open_set: {:.0} microseconds",
+        seconds * 1e6
+    )?;
     Ok(())
 }
 
@@ -220,7 +225,10 @@ fn print_times(
     }
     let link = time_link(rt, packages)?;
     eprintln!(rt; "  link: {:.0} microseconds", link * 1e6)?;
-    eprintln!(rt; "  all steps behind the opening: {:.1} times the linker's", all / link)?;
+    eprintln!(rt;
+        "  all steps behind the opening: {:.1} times the linker's",
+        all / link
+    )?;
     Ok(())
 }
 

@@ -11,7 +11,7 @@ use external_flash::{Gate, open_gate};
 use flash_pages::Board;
 use kept_boot::boot;
 use kept_definitions::areas::LAYOUT;
-use kept_journal::{Stage, mark, go, put_manifest, read_state};
+use kept_journal::{Stage, go, mark, put_manifest, read_state};
 use kept_manifests::{SlotManifest, read_slot_pages, slot_page};
 use kept_store::slot_for;
 use sha2::{Digest, Sha256};
@@ -60,7 +60,10 @@ pub(crate) fn format(board: &mut BenchBoard) -> bool {
     let Some(nothing) = nothing() else {
         return false;
     };
-    if board.ext_program(MANIFEST_A, &slot_page(&nothing, 0)).is_err() {
+    if board
+        .ext_program(MANIFEST_A, &slot_page(&nothing, 0))
+        .is_err()
+    {
         return false;
     }
     open_gate(board, Gate::Fmt).is_ok()
