@@ -15,7 +15,7 @@ pub(crate) struct BenchBoard {
     prog_reads: u32,
 }
 
-/// How many pages were read: those of external flash by what they hold, and those of program flash.
+/// How many pages were read: those of external flash by what they hold, where packages are those of inbox and table slots, and those of program flash.
 #[derive(Clone, Copy)]
 pub(crate) struct AllReads {
     external: Reads,
